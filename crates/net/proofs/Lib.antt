@@ -1,0 +1,14 @@
+pub mod Values
+pub mod Cases
+pub mod Classes
+pub mod Reach
+pub mod Connected
+pub mod Fights
+pub mod Keys
+pub mod Components
+pub mod Local
+pub mod WellFormed
+pub mod SignalTable
+pub mod Concrete
+pub mod Examples
+pub mod Nands

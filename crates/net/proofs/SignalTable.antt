@@ -1,0 +1,110 @@
+-- The excitation of a storage vertex, over all states, is that over the values of its signals.
+use mathlib.Core.Path.{_≡_, refl, sym, ap, subst, _∙_}
+use mathlib.Core.Bool.{Bool, true, false, cond, _&&_, false≢true}
+use mathlib.Core.Logic.{_↔_}
+use Prim.Native.Nat.{ℕ, suc, _+_, _-_, _^_, _<_, _≤_}
+use native.Mathlib.Omega.{arith}
+use lib.Dec.{eqb, leb, lit<}
+use lib.ListN.{length, getD}
+use borrow.Author.Tests.{leb-true, eq-eqb}
+use Rattle.ternary.specs.Bits.{bit}
+use Rattle.net.specs.declared.Net.{Net}
+use Rattle.net.specs.declared.Symbol.{Symbol}
+use Rattle.net.specs.declared.Symbol.the-variants.{Constant, Letter, Vertex, Unknown}
+use Rattle.ternary.specs.Lists.{anyBelow, countBelow}
+use Rattle.net.specs.Limits.{letterBase, vertexBase}
+use Rattle.net.specs.Symbols.{decode, isVariable, symbolBound}
+use Rattle.net.specs.Graph.{vertexAt, edgeAt, isInput, isStorage, isKey, keyIndex, keyCount, keyVertex}
+use Rattle.net.specs.State.{symbolValue, value}
+use Rattle.net.specs.Walks.{Link}
+use Rattle.net.specs.Excitation.{excitation}
+use Rattle.net.specs.Component.{SameComponent, Signal, on-edge, on-input, Agree, components, isSignal, signals}
+use Rattle.net.specs.SignalTable.{signalCount, gather, signalIndex, setting, spreadInput, spreadKeys, excitationAt, truthTable}
+use Rattle.net.specs.Known.{knownSymbol, knownLabel, Known}
+use Rattle.net.specs.WellFormed.{Clean, C1}
+use Rattle.ternary.proofs.Tests.{cond-by, both}
+use Rattle.ternary.proofs.ListLaws.{any-of, At, at-place}
+use Rattle.ternary.proofs.BitLaws.{bit-lt, number-lt, bit-number}
+use Rattle.net.proofs.Values.{value-lt, decode-by, variable-range}
+use Rattle.net.proofs.Keys.{KeyAt, key-at, index-at, key-storage}
+use Rattle.net.proofs.Components.{is-signal-iff, signal-range}
+use Rattle.net.proofs.Local.{excitation-local}
+
+module _ (N : Net) (y : ℕ) where
+  at-signal : {s : ℕ} → Signal N y s → At (isSignal N (components N) y) symbolBound (signalIndex N y s) s
+  unfolding signalIndex
+  at-signal {s} g = at-place (isSignal N (components N) y) symbolBound s (signal-range N y g) (is-signal-iff N y s .1 g)
+
+  setting-lt : (w s : ℕ) → setting N y w s < 2
+  unfolding setting
+  setting-lt w s = cond-by (λ (v : ℕ). v < 2) (isSignal N (components N) y s) (λ _. bit-lt w _) (λ _. lit< tt)
+
+  setting-signal : (w s : ℕ) → Signal N y s → setting N y w s ≡ bit w (signalIndex N y s)
+  unfolding setting
+  setting-signal w s g = rw (is-signal-iff N y s .1 g)
+
+  pub gather-lt : (a q : ℕ) → gather N y a q < 2 ^ signalCount N y
+  unfolding gather
+  gather-lt a q = number-lt (signalCount N y) _ (λ i _. value-lt N a q _)
+
+  gather-bit : (a q : ℕ) {s : ℕ} → Signal N y s → bit (gather N y a q) (signalIndex N y s) ≡ value N a q s
+  unfolding gather signalCount signals
+  gather-bit a q {s} g = let r = at-signal g in bit-number _ _ (λ i _. value-lt N a q _) (signalIndex N y s) (r .inside) ∙ ap (value N a q) (r .reads)
+
+  pub spread-clean : (w : ℕ) → Clean N (spreadInput N y w) (spreadKeys N y w)
+  unfolding spreadInput spreadKeys
+  spread-clean w = record { input = number-lt _ _ (λ j _. setting-lt w _); key = number-lt _ _ (λ k _. setting-lt w _) }
+
+  spread-letter : (w s : ℕ) → letterBase < s → s - letterBase ≤ N .«letter_count» → bit (spreadInput N y w) (s - letterBase - 1) ≡ setting N y w s
+  unfolding spreadInput
+  spread-letter w s h l = bit-number _ _ (λ j _. setting-lt w _) (s - letterBase - 1) (omega arith) ∙ ap (setting N y w) (omega arith)
+
+  spread-key : (w s : ℕ) → vertexBase < s → isKey N (s - vertexBase) ≡ true → bit (spreadKeys N y w) (keyIndex N (s - vertexBase)) ≡ setting N y w s
+  unfolding spreadKeys
+  spread-key w s h k =
+      let r = index-at N (s - vertexBase) k in
+      bit-number _ _ (λ j _. setting-lt w _) (keyIndex N (s - vertexBase)) (r .below) ∙ ap (λ (v : ℕ). setting N y w (vertexBase + v)) (r .vertex) ∙ ap (setting N y w) (omega arith)
+
+  -- the symbol of an edge, if it is a storage vertex, is a key node
+  edge-key : (i : ℕ) → i < N .«edge_count» → vertexBase < (edgeAt N i) .symbol → isStorage N ((edgeAt N i) .symbol - vertexBase) ≡ true → isKey N ((edgeAt N i) .symbol - vertexBase) ≡ true
+  unfolding isKey
+  edge-key i h l s = both s (any-of _ (N .«edge_count») i h (eq-eqb ((edgeAt N i) .symbol) _ (omega arith)))
+
+  module _ (known : Known N) where
+    spread-value : (w : ℕ) {s : ℕ} → Signal N y s → value N (spreadInput N y w) (spreadKeys N y w) s ≡ setting N y w s
+    unfolding value symbolValue
+    spread-value w (on-edge c l v) =
+        let s = (edgeAt N (l .index)) .symbol in
+        decode-by (λ x. isVariable x ≡ true → knownSymbol N x ≡ true → symbolValue N (spreadInput N y w) (spreadKeys N y w) x ≡ setting N y w s) s
+        (λ _ e _. absurd (false≢true e))
+        (λ h _ _ k. spread-letter w s h (leb-true (s - letterBase) (N .«letter_count») k))
+        (λ h _ _ k. spread-key w s h (edge-key (l .index) (l .below) h k))
+        (λ e _. absurd (false≢true e))
+        v (known .symbols (l .index) (l .below))
+    spread-value w (on-input {x = x} c l i v) =
+        let s = (vertexAt N x) .label in
+        decode-by (λ x. isVariable x ≡ true → knownLabel N x ≡ true → symbolValue N (spreadInput N y w) (spreadKeys N y w) x ≡ setting N y w s) s
+        (λ _ e _. absurd (false≢true e))
+        (λ h _ _ k. spread-letter w s h (leb-true (s - letterBase) (N .«letter_count») k))
+        (λ _ _ _ k. absurd (false≢true k))
+        (λ e _. absurd (false≢true e))
+        v (known .labels x i)
+
+    -- under the spread state, signal i has bit i
+    pub spread-signal : (w : ℕ) {s : ℕ} → Signal N y s → value N (spreadInput N y w) (spreadKeys N y w) s ≡ bit w (signalIndex N y s)
+    spread-signal w {s} g = spread-value w g ∙ setting-signal w s g
+
+    pub gather-agrees : (a q : ℕ) → Agree N y a q (spreadInput N y (gather N y a q)) (spreadKeys N y (gather N y a q))
+    gather-agrees a q s g = sym (spread-signal (gather N y a q) g ∙ gather-bit a q g)
+
+    -- the excitation under any state is that of its signals' values
+    pub excitation-gather : isStorage N y ≡ true → (a q : ℕ) → excitation N a q y ≡ excitation N (spreadInput N y (gather N y a q)) (spreadKeys N y (gather N y a q)) y
+    excitation-gather sy a q = excitation-local N y a q _ _ sy (gather-agrees a q)
+
+-- C1 by signals: 2 ^ signals states for each key node
+pub c1-by-signals : (N : Net) → Known N → C1 N ↔ ((k : ℕ) → k < keyCount N → (w : ℕ) → w < 2 ^ signalCount N (keyVertex N k) →
+    excitation N (spreadInput N (keyVertex N k) w) (spreadKeys N (keyVertex N k) w) (keyVertex N k) < 2)
+c1-by-signals N known = (
+  λ c k h w _. c _ _ (spread-clean N (keyVertex N k) w) k h,
+  λ f a q _ k h. rw (excitation-gather N (keyVertex N k) known (key-storage N _ (key-at N k h .key)) a q) (f k h (gather N (keyVertex N k) a q) (gather-lt N (keyVertex N k) a q)),
+)

@@ -1,0 +1,11 @@
+pub mod Limits
+pub mod Symbols
+pub mod Graph
+pub mod Known
+pub mod State
+pub mod Walks
+pub mod Classes
+pub mod Excitation
+pub mod Component
+pub mod SignalTable
+pub mod WellFormed

@@ -1,0 +1,42 @@
+-- Walks in a net: the inductive definitions of connection and fight.
+use mathlib.Core.Bool.{Bool, true}
+use mathlib.Core.Logic.{_⊎_}
+use mathlib.Core.Path.{_≡_}
+use Prim.Native.Nat.{ℕ, _<_}
+use Rattle.net.specs.declared.Edge.{Edge}
+use Rattle.net.specs.declared.Net.{Net}
+use Rattle.net.specs.Graph.{edgeAt, isStorage}
+use Rattle.net.specs.declared.Kind.{Kind}
+use Rattle.net.specs.declared.Kind.the-variants.{Any}
+use Rattle.net.specs.State.{usable, inputOf}
+
+-- e joins u and v, in either order
+abbrev pub Joins : Edge → ℕ → ℕ → Type 0
+Joins e u v = ((e .end1 ≡ u) × (e .end2 ≡ v)) ⊎ ((e .end1 ≡ v) × (e .end2 ≡ u))
+
+-- an edge whose index passes the test `on` joins u and v
+pub record Link (N : Net) (on : ℕ → Bool) (u v : ℕ) : Type 0 where
+  pub index : ℕ
+  pub below : index < N .«edge_count»
+  pub passes : on index ≡ true
+  pub joins : Joins (edgeAt N index) u v
+
+-- at least one edge, each passing `on`; the inner vertices are storage vertices
+pub data Walk (N : Net) (on : ℕ → Bool) : ℕ → ℕ → Type 0 where
+  edge : {u v : ℕ} → Link N on u v → Walk N on u v
+  via : {u w v : ℕ} → Link N on u w → isStorage N w ≡ true → Walk N on w v → Walk N on u v
+
+abbrev pub Connection : Net → ℕ → ℕ → Kind → ℕ → ℕ → Type 0
+Connection N a q k u v = Walk N (usable N a q k) u v
+
+-- y has a connection of kind k to an input vertex of value b
+abbrev pub Connects : Net → ℕ → ℕ → Kind → ℕ → ℕ → Type 0
+Connects N a q k y b = (x : ℕ) × (inputOf N a q b x ≡ true) × Connection N a q k y x
+
+-- a connection between input vertices of values 0 and 1
+pub record Fight (N : Net) (a q : ℕ) : Type 0 where
+  pub low : ℕ
+  pub high : ℕ
+  pub is-low : inputOf N a q 0 low ≡ true
+  pub is-high : inputOf N a q 1 high ≡ true
+  pub joined : Connection N a q Any low high

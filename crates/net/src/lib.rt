@@ -1,0 +1,91 @@
+//! The record of a net, the report's CMOS graph: its vertices, its edges and how many letters it has.
+//! What a net means stands in specs/, the laws of it in proofs/.
+
+ghost use mathlib.Core.Path.{_≡_};
+ghost use Rattle.net.specs.Limits.{limits};
+
+// A vertex by its numbers on the sheet. role: 0 input, 1 storage, 2 storage and output. label: an input vertex's symbol.
+pub struct Vertex {
+    pub role: u8,
+    pub label: u16,
+}
+
+// An edge joins vertices end1 and end2. form: 0 to 3. symbol: a symbol's number.
+pub struct Edge {
+    pub end1: u8,
+    pub end2: u8,
+    pub form: u8,
+    pub symbol: u16,
+}
+
+// Vertex v, counted from 1, stands at index v - 1. The first vertex_count vertices and edge_count edges are in use; the other places are zero.
+pub struct Net {
+    pub vertices: [Vertex; Net::MOST_VERTICES],
+    pub edges: [Edge; Net::MOST_EDGES],
+    pub vertex_count: u8,
+    pub edge_count: u16,
+    pub letter_count: u8,
+}
+
+impl Net {
+    pub const MOST_VERTICES: usize = 96;
+    pub const MOST_EDGES: usize = 192;
+    pub const MOST_LETTERS: usize = 8;
+    pub const MOST_KEY_NODES: usize = 12;
+    // Of one component.
+    pub const MOST_SIGNALS: usize = 8;
+}
+
+// A symbol by its number. Letters and vertices are numbered from 1.
+pub enum Symbol {
+    Constant(u8),
+    Letter(u8),
+    Vertex(u8),
+    Unknown,
+}
+
+impl Symbol {
+    // Letter j has the number LETTERS + j, and vertex v the number VERTICES + v.
+    pub const LETTERS: u16 = 10;
+    pub const VERTICES: u16 = 100;
+}
+
+// The condition of an edge under a state.
+pub enum Condition {
+    Open,
+    NClosed,
+    PClosed,
+}
+
+// Which edges a connection may use: any closed ones, n-closed ones or p-closed ones.
+pub enum Kind {
+    Any,
+    NType,
+    PType,
+}
+
+// The limits as one value, to hold the constants to the definitions.
+pub struct Limits {
+    pub vertices: usize,
+    pub edges: usize,
+    pub letters: usize,
+    pub key_nodes: usize,
+    pub signals: usize,
+    pub letter_symbols: u16,
+    pub vertex_symbols: u16,
+}
+
+// The code's limits are those of the definitions.
+pub fn limits_in_force() -> Limits
+    ensures { λ r. ⌜ r ≡ limits ⌝ }
+{
+    Limits {
+        vertices: Net::MOST_VERTICES,
+        edges: Net::MOST_EDGES,
+        letters: Net::MOST_LETTERS,
+        key_nodes: Net::MOST_KEY_NODES,
+        signals: Net::MOST_SIGNALS,
+        letter_symbols: Symbol::LETTERS,
+        vertex_symbols: Symbol::VERTICES,
+    }
+}

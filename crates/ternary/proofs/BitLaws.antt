@@ -1,0 +1,72 @@
+-- Laws of bits and of the numbers made of bits. Assumes nothing.
+use Prim.Native.Nat.{ℕ, zero, suc, _+_, _*_, _/_, _%_, _^_, _<_}
+use mathlib.Core.Path.{_≡_, refl, sym, ap, _∙_}
+use mathlib.Core.Bool.{Bool, true, false}
+use native.Mathlib.Omega.{arith}
+use native.Mathlib.Nat.{div-div-eq-div-mul, pow-succ', pow-zero, div-one}
+use lib.Dec.{eqb}
+use Rattle.ternary.specs.Bits.{bit, number, has, digit, setOf}
+
+-- ---- bits
+
+pub bit-lt : (n k : ℕ) → bit n k < 2
+unfolding bit
+bit-lt n zero = omega arith
+bit-lt n (suc k) = bit-lt (n / 2) k
+
+-- bit k is what a shift and a remainder give
+pub bit-shift : (n k : ℕ) → bit n k ≡ n / 2 ^ k % 2
+unfolding bit
+bit-shift n zero = rw (pow-zero, div-one) refl
+bit-shift n (suc k) = bit-shift (n / 2) k ∙ ap (λ x. x % 2) (div-div-eq-div-mul n 2 (2 ^ k) ∙ ap (λ x. n / x) (sym (pow-succ' 2 k)))
+
+-- a number below 2 ^ h is determined by its bits
+pub bit-ext : (h m n : ℕ) → m < 2 ^ h → n < 2 ^ h → ((k : ℕ) → k < h → bit m k ≡ bit n k) → m ≡ n
+unfolding bit
+bit-ext zero m n hm hn e = omega (arith, pow-zero 2)
+bit-ext (suc h) m n hm hn e =
+    let low : m % 2 ≡ n % 2 = e 0 (omega arith) in
+    let high : m / 2 ≡ n / 2 = bit-ext h (m / 2) (n / 2) (omega arith) (omega arith) (λ k l. e (suc k) (omega arith)) in
+    omega arith
+
+-- ---- numbers made of bits
+
+pub number-lt : (h : ℕ) (f : ℕ → ℕ) → ((k : ℕ) → k < h → f k < 2) → number h f < 2 ^ h
+unfolding number
+number-lt zero f b = omega (arith, pow-zero 2)
+number-lt (suc h) f b =
+    let low : f 0 < 2 = b 0 (omega arith) in
+    let high : number h (λ k. f (suc k)) < 2 ^ h = number-lt h (λ k. f (suc k)) (λ k l. b (suc k) (omega arith)) in
+    omega arith
+
+pub bit-number : (h : ℕ) (f : ℕ → ℕ) → ((k : ℕ) → k < h → f k < 2) → (k : ℕ) → k < h → bit (number h f) k ≡ f k
+unfolding bit number
+bit-number zero f b k l = absurd (omega arith)
+bit-number (suc h) f b zero l =
+    let low : f 0 < 2 = b 0 (omega arith) in
+    omega arith
+bit-number (suc h) f b (suc k) l =
+    let low : f 0 < 2 = b 0 (omega arith) in
+    let half : (f 0 + 2 * number h (λ k. f (suc k))) / 2 ≡ number h (λ k. f (suc k)) = omega arith in
+    rw half (bit-number h (λ k. f (suc k)) (λ k l. b (suc k) (omega arith)) k (omega arith))
+
+pub number-bits : (h n : ℕ) → n < 2 ^ h → number h (bit n) ≡ n
+number-bits h n l = bit-ext h (number h (bit n)) n (number-lt h (bit n) (λ k _. bit-lt n k)) l (bit-number h (bit n) (λ k _. bit-lt n k))
+
+-- ---- sets
+
+digit-lt : (b : Bool) → digit b < 2
+digit-lt true = omega arith
+digit-lt false = omega arith
+
+pub setOf-lt : (h : ℕ) (P : ℕ → Bool) → setOf h P < 2 ^ h
+unfolding setOf
+setOf-lt h P = number-lt h (λ k. digit (P k)) (λ k _. digit-lt (P k))
+
+eqb-digit : (b : Bool) → eqb (digit b) 1 ≡ b
+eqb-digit true = refl
+eqb-digit false = refl
+
+pub has-setOf : (h : ℕ) (P : ℕ → Bool) (k : ℕ) → k < h → has (setOf h P) k ≡ P k
+unfolding has setOf
+has-setOf h P k l = rw (bit-number h (λ k. digit (P k)) (λ k l. digit-lt (P k)) k l) (eqb-digit (P k))

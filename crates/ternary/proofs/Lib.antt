@@ -1,0 +1,11 @@
+pub mod Tests
+pub mod ListLaws
+pub mod BitLaws
+pub mod SignalLaws
+pub mod ExcitationLaws
+pub mod PassLaws
+pub mod Passes
+pub mod RunLaws
+pub mod Invariant
+pub mod Demand
+pub mod Example

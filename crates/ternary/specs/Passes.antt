@@ -1,0 +1,48 @@
+-- The two passes of ternary settling, the report's algorithms A and B, with their step counts. Assumes nothing.
+use Prim.Native.Nat.{ℕ, zero, suc}
+use mathlib.Core.Bool.{Bool, true, false, cond}
+use mathlib.Core.List.{List}
+use lib.Dec.{eqb}
+use Rattle.ternary.specs.Lists.{table, same}
+use Rattle.ternary.specs.Bits.{bit}
+use Rattle.ternary.specs.Signal.{X}
+use Rattle.ternary.specs.Excitation.{H}
+
+-- a pass's last vector, and how often the vector changed
+pub record Pass : Type 0 where
+  pub vector : List ℕ
+  pub steps : ℕ
+
+-- r becomes f r until that changes nothing, at most n times (for both passes n is enough: `first-ends`, `second-ends`)
+unfoldable pub settleBy : (List ℕ → List ℕ) → ℕ → List ℕ → Pass
+settleBy f zero r = record { vector = r; steps = 0 }
+settleBy f (suc n) r = elim (same (f r) r) [
+  | true ↦ record { vector = r; steps = 0 }
+  | false ↦ let p = settleBy f n (f r) in record { vector = p .vector; steps = suc (p .steps) }
+]
+
+-- the vector p of the first pass: X where A and B differ
+unfoldable pub mix : ℕ → ℕ → ℕ → List ℕ
+mix L A B = table L (λ j. cond (eqb (bit A j) (bit B j)) (bit A j) X)
+
+-- what the two passes give
+pub record Settled : Type 0 where
+  pub r : List ℕ
+  pub t : List ℕ
+  pub firstSteps : ℕ
+  pub secondSteps : ℕ
+
+module _ (L h : ℕ) (F : ℕ → ℕ → ℕ → ℕ) where
+  -- the changing letters are X, and the vector starts at q
+  unfoldable pub firstPass : ℕ → ℕ → ℕ → Pass
+  firstPass A B q = settleBy (H F h (mix L A B)) h (table h (bit q))
+
+  -- the letters are those of B, and the vector starts at the first pass's last
+  unfoldable pub secondPass : ℕ → List ℕ → Pass
+  secondPass B r = settleBy (H F h (table L (bit B))) h r
+
+  unfoldable pub settled : ℕ → ℕ → ℕ → Settled
+  settled A B q =
+      let one = firstPass A B q in
+      let two = secondPass B (one .vector) in
+      record { r = one .vector; t = two .vector; firstSteps = one .steps; secondSteps = two .steps }
