@@ -6,7 +6,7 @@ use Rattle.net.specs.declared.Vertex.{Vertex}
 use Rattle.net.specs.declared.Edge.{Edge}
 use Rattle.ternary.specs.Bits.{bit}
 use Rattle.net.specs.declared.Net.{Net}
-use Rattle.ternary.specs.Lists.{table, anyBelow, allBelow, countBelow, listBelow}
+use Rattle.ternary.specs.Lists.{table, anyBelow, allBelow, countBelow, listBelow, leastBelow}
 use Rattle.net.specs.Limits.{mostVertices, mostEdges}
 use Rattle.net.specs.Symbols.{decode}
 use Rattle.net.specs.Graph.{noVertex, noEdge, vertexAt, edgeAt, hasRole, isStorage, isKey, keyIndex, keys, keyCount, keyVertex}
@@ -14,7 +14,9 @@ use Rattle.net.specs.State.{symbolValue, value, conditionOf, condition, 
 use Rattle.net.specs.Classes.{relabel, merge, inner, labels, sameLabel, exits, leads, reaches}
 use Rattle.net.specs.Excitation.{connectedUnder, connected, excitationOf, excitation, edgeFights, vertexFights, fights}
 use Rattle.net.specs.Component.{sameComponent, carries, gives, isSignal, signals}
-use Rattle.net.specs.WellFormed.{stableAt, stable, everyState, cleanKeys, unknownOutput, testC1, testC2, testC3, wellFormed}
+use Rattle.ternary.specs.Run.{isStable}
+use Rattle.net.specs.Network.{stable}
+use Rattle.net.specs.WellFormed.{everyState, breaksC1, placeC1, testC2, breaksC3, placeC3}
 
 abbrev pub vertex : ℕ → ℕ → Vertex
 vertex r l = record { role = r; label = l }
@@ -35,5 +37,5 @@ net vs es l =
 
 -- `unfolding model` opens every definition of the model
 unfoldable pub model : Unit {0}
-unfolding excitation connectedUnder connected excitationOf reaches labels merge relabel inner table leads exits sameLabel anyBelow allBelow countBelow listBelow edgeAt vertexAt hasRole isStorage isKey keyIndex keys keyCount keyVertex usable conditions inputOf condition conditionOf value symbolValue decode bit edgeFights vertexFights fights sameComponent carries gives isSignal signals stableAt stable everyState cleanKeys unknownOutput testC1 testC2 testC3 wellFormed
+unfolding excitation connectedUnder connected excitationOf reaches labels merge relabel inner table leads exits sameLabel anyBelow allBelow countBelow listBelow edgeAt vertexAt hasRole isStorage isKey keyIndex keys keyCount keyVertex usable conditions inputOf condition conditionOf value symbolValue decode bit edgeFights vertexFights fights sameComponent carries gives isSignal signals isStable stable leastBelow everyState breaksC1 placeC1 testC2 breaksC3 placeC3
 model = tt

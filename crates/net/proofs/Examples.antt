@@ -6,8 +6,9 @@ use Rattle.net.specs.declared.Net.{Net}
 use Rattle.ternary.specs.Lists.{listBelow}
 use Rattle.net.specs.Excitation.{excitation, fights}
 use Rattle.net.specs.Component.{signals}
-use Rattle.net.specs.WellFormed.{stable, WellFormed}
-use Rattle.net.proofs.WellFormed.{well-formed-iff}
+use Rattle.net.specs.Network.{stable}
+use Rattle.net.specs.WellFormed.{WellFormed}
+use Rattle.net.proofs.WellFormed.{place-c1-none, c2-iff, place-c3-none}
 use Rattle.net.proofs.Concrete.{vertex, edge, net, model}
 
 -- vertex 3 is the output z, 4 the inner vertex y; letters a = 11 and b = 12
@@ -63,7 +64,7 @@ latch-signals = refl
 
 latch-well-formed : WellFormed latch
 unfolding model latch
-latch-well-formed = well-formed-iff latch .0 refl
+latch-well-formed = record { c1 = place-c1-none latch .0 refl; c2 = c2-iff latch .0 refl; c3 = place-c3-none latch .0 refl }
 
 -- a pair of transmission gates (the report's example 4.1), all four forms: y is b where a is 0, and c where a is 1; letters a, b, c
 selector : Net

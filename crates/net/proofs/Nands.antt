@@ -7,8 +7,9 @@ use Rattle.net.specs.declared.Net.{Net}
 use Rattle.ternary.specs.Lists.{listBelow}
 use Rattle.net.specs.Excitation.{excitation}
 use Rattle.net.specs.Component.{signals}
-use Rattle.net.specs.WellFormed.{stable, WellFormed}
-use Rattle.net.proofs.WellFormed.{well-formed-iff}
+use Rattle.net.specs.Network.{stable}
+use Rattle.net.specs.WellFormed.{WellFormed}
+use Rattle.net.proofs.WellFormed.{place-c1-none, c2-iff, place-c3-none}
 use Rattle.net.proofs.Concrete.{vertex, edge, net, model}
 
 -- vertices 3, 4, 5 are y1, y2, y3, and 6, 7, 8 stand between the n edges
@@ -27,4 +28,4 @@ nands-signals = refl
 
 nands-well-formed : WellFormed nands
 unfolding model nands
-nands-well-formed = well-formed-iff nands .0 refl
+nands-well-formed = record { c1 = place-c1-none nands .0 refl; c2 = c2-iff nands .0 refl; c3 = place-c3-none nands .0 refl }

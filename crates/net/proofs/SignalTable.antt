@@ -21,13 +21,15 @@ use Rattle.net.specs.Excitation.{excitation}
 use Rattle.net.specs.Component.{SameComponent, Signal, on-edge, on-input, Agree, components, isSignal, signals}
 use Rattle.net.specs.SignalTable.{signalCount, gather, signalIndex, setting, spreadInput, spreadKeys, excitationAt, truthTable}
 use Rattle.net.specs.Known.{knownSymbol, knownLabel, Known}
-use Rattle.net.specs.WellFormed.{Clean, C1}
+use Rattle.net.specs.Network.{Clean}
+use Rattle.net.specs.WellFormed.{C1}
 use Rattle.ternary.proofs.Tests.{cond-by, both}
 use Rattle.ternary.proofs.ListLaws.{any-of, At, at-place}
 use Rattle.ternary.proofs.BitLaws.{bit-lt, number-lt, bit-number}
 use Rattle.net.proofs.Values.{value-lt, decode-by, variable-range}
 use Rattle.net.proofs.Keys.{KeyAt, key-at, index-at, key-storage}
 use Rattle.net.proofs.Components.{is-signal-iff, signal-range}
+use Rattle.net.proofs.WellFormed.{binary-iff}
 use Rattle.net.proofs.Local.{excitation-local}
 
 module _ (N : Net) (y : ℕ) where
@@ -98,13 +100,16 @@ module _ (N : Net) (y : ℕ) where
     gather-agrees a q s g = sym (spread-signal (gather N y a q) g ∙ gather-bit a q g)
 
     -- the excitation under any state is that of its signals' values
-    pub excitation-gather : isStorage N y ≡ true → (a q : ℕ) → excitation N a q y ≡ excitation N (spreadInput N y (gather N y a q)) (spreadKeys N y (gather N y a q)) y
+    pub excitation-gather : isStorage N y ≡ true → (a q : ℕ) → excitation N a q y ≡ excitationAt N y (gather N y a q)
+    unfolding excitationAt
     excitation-gather sy a q = excitation-local N y a q _ _ sy (gather-agrees a q)
 
 -- C1 by signals: 2 ^ signals states for each key node
 pub c1-by-signals : (N : Net) → Known N → C1 N ↔ ((k : ℕ) → k < keyCount N → (w : ℕ) → w < 2 ^ signalCount N (keyVertex N k) →
-    excitation N (spreadInput N (keyVertex N k) w) (spreadKeys N (keyVertex N k) w) (keyVertex N k) < 2)
+    excitationAt N (keyVertex N k) w < 2)
+unfolding excitationAt
 c1-by-signals N known = (
-  λ c k h w _. c _ _ (spread-clean N (keyVertex N k) w) k h,
-  λ f a q _ k h. rw (excitation-gather N (keyVertex N k) known (key-storage N _ (key-at N k h .key)) a q) (f k h (gather N (keyVertex N k) a q) (gather-lt N (keyVertex N k) a q)),
+  λ c k h w _. let s = spread-clean N (keyVertex N k) w in binary-iff _ .1 (c _ _ k (s .input) (s .key) h),
+  λ f a q k _ _ h. binary-iff _ .0
+      (rw (excitation-gather N (keyVertex N k) known (key-storage N _ (key-at N k h .key)) a q) (f k h (gather N (keyVertex N k) a q) (gather-lt N (keyVertex N k) a q))),
 )

@@ -1,69 +1,167 @@
--- `stable` and `wellFormed` test for stable states and for conditions C1 to C3.
-use mathlib.Core.Path.{_≡_}
-use mathlib.Core.Bool.{Bool, true, not, _&&_}
-use mathlib.Core.Logic.{_↔_, _≢_, Iff·trans}
-use Prim.Native.Nat.{ℕ, suc, _^_, _<_}
+-- The tests of stable states and of conditions C1 to C3 mean what the propositions say.
+use Prim.Native.Nat.{ℕ, zero, suc, _^_, _<_}
+use mathlib.Core.Path.{_≡_, refl}
+use mathlib.Core.Bool.{Bool, true, false, not, _&&_}
+use mathlib.Core.Logic.{_↔_, _⊎_, inl, inr, ⊎-elim, Iff·trans}
+use mathlib.Core.Option.{none, some}
+use native.Mathlib.Omega.{arith}
 use lib.Dec.{eqb, ltb}
-use borrow.Author.Tests.{eqb-true, eq-eqb, ltb-true, lt-ltb}
-use Rattle.net.specs.declared.Net.{Net}
-use Rattle.ternary.specs.Lists.{anyBelow, allBelow}
-use Rattle.net.specs.Graph.{isOutput, isStorage, hasRole, keyCount, keyVertex}
+use borrow.Author.Tests.{eqb-true, eq-eqb, ltb-true, lt-ltb, not-true, not-false}
+use Rattle.ternary.specs.Lists.{allBelow}
 use Rattle.ternary.specs.Bits.{bit}
+use Rattle.ternary.specs.Run.{isStable}
+use Rattle.net.specs.declared.Net.{Net}
+use Rattle.net.specs.Graph.{isKey, isOutput, keyCount, keyIndex, keyVertex}
 use Rattle.net.specs.Walks.{Fight}
 use Rattle.net.specs.Excitation.{excitation, fights}
-use Rattle.net.specs.WellFormed.{Clean, stableAt, stable, Stable, C1, C2, C3, WellFormed, everyState, cleanKeys, unknownOutput, testC1, testC2, testC3, wellFormed}
-use Rattle.ternary.proofs.Tests.{ands, and-left, and-right, both, or-right, not-and}
-use Rattle.ternary.proofs.ListLaws.{any-found, any-of, all-at, all-of}
-use Rattle.net.proofs.Classes.{role-range}
+use Rattle.net.specs.Network.{network, Clean, Stable, stable}
+use Rattle.net.specs.WellFormed.{C1, C2, C3, everyState, breaksC1, placeC1, testC2, breaksC3, placeC3}
+use Rattle.ternary.proofs.Tests.{and-left, and-right, both, by-test, fails, not-and, not-both}
+use Rattle.ternary.proofs.ListLaws.{all-at, all-of, all-false, least-none-iff, least-some-iff}
+use Rattle.net.proofs.Classes.{role-range, storage-range}
 use Rattle.net.proofs.Fights.{fights-iff}
+use Rattle.net.proofs.Keys.{key-at, index-at, key-storage}
+
+-- 0 or 1
+pub binary-iff : (v : ℕ) → (v < 2) ↔ ((v ≡ 0) ⊎ (v ≡ 1))
+binary-iff v = (there v, λ s. ⊎-elim (λ e. omega arith) (λ e. omega arith) s)
+  where
+    there : (v : ℕ) → v < 2 → (v ≡ 0) ⊎ (v ≡ 1)
+    there zero h = inl refl
+    there (suc zero) h = inr refl
+    there (suc (suc v)) h = absurd (omega arith)
 
 module _ (N : Net) where
   pub stable-iff : (a q : ℕ) → (stable N a q ≡ true) ↔ Stable N a q
-  unfolding stable stableAt
+  unfolding stable isStable
   stable-iff a q = (
-    λ e k h. eqb-true (excitation N a q (keyVertex N k)) (bit q k) (all-at (stableAt N a q) (keyCount N) e k h),
-    λ s. all-of (stableAt N a q) (keyCount N) (λ k h. eq-eqb (excitation N a q (keyVertex N k)) (bit q k) (s k h)),
+    λ e k h. eqb-true (network N a q k) (bit q k) (all-at (isStable (network N) a q) (keyCount N) e k h),
+    λ s. all-of (isStable (network N) a q) (keyCount N) (λ k h. eq-eqb (network N a q k) (bit q k) (s k h)),
   )
 
-  every-state-iff : (p : ℕ → ℕ → Bool) → (everyState N p ≡ true) ↔ ((a q : ℕ) → Clean N a q → p a q ≡ true)
+  -- ---- every clean state, and some
+
+  pub every-state-iff : (p : ℕ → ℕ → Bool) → (everyState N p ≡ true) ↔ ((a q : ℕ) → Clean N a q → p a q ≡ true)
   unfolding everyState
   every-state-iff p = (
     λ e a q c. all-at (p a) (2 ^ keyCount N) (all-at (λ a. allBelow (2 ^ keyCount N) (p a)) (2 ^ N .«letter_count») e a (c .input)) q (c .key),
     λ f. all-of (λ a. allBelow (2 ^ keyCount N) (p a)) (2 ^ N .«letter_count») (λ a h. all-of (p a) (2 ^ keyCount N) (λ q k. f a q (record { input = h; key = k }))),
   )
 
-  pub c1-iff : (testC1 N ≡ true) ↔ C1 N
-  unfolding testC1 cleanKeys
-  c1-iff = (
-    λ e a q c k h. ltb-true (excitation N a q (keyVertex N k)) 2 (all-at _ (keyCount N) (every-state-iff (cleanKeys N) .0 e a q c) k h),
-    λ f. every-state-iff (cleanKeys N) .1 (λ a q c. all-of _ (keyCount N) (λ k h. lt-ltb (excitation N a q (keyVertex N k)) 2 (f a q c k h))),
-  )
+  -- some clean state fails the test
+  pub record FailsAt (p : ℕ → ℕ → Bool) : Type 0 where
+    pub input : ℕ
+    pub key : ℕ
+    pub clean : Clean N input key
+    pub fails : p input key ≡ false
 
-  -- a state test that passes where a stable state has not P
-  never : (p : ℕ → ℕ → Bool) → (everyState N (λ a q. not (stable N a q && p a q)) ≡ true) ↔ ((a q : ℕ) → Clean N a q → Stable N a q → p a q ≡ true → ⊥)
-  never p = (
-    λ e a q c s. not-and (stable N a q) (p a q) .0 (every-state-iff _ .0 e a q c) (stable-iff a q .1 s),
-    λ f. every-state-iff _ .1 (λ a q c. not-and (stable N a q) (p a q) .1 (λ s. f a q c (stable-iff a q .0 s))),
-  )
+  pub some-state-iff : (p : ℕ → ℕ → Bool) → (not (everyState N p) ≡ true) ↔ FailsAt p
+  unfolding everyState
+  some-state-iff p = (there, λ f. by-test (everyState N p) (λ e. absurd (not-both _ (every-state-iff p .0 e (f .input) (f .key) (f .clean)) (f .fails))) (λ e. rw e))
+    where
+      there : not (everyState N p) ≡ true → FailsAt p
+      there e =
+          let u = all-false (λ a. allBelow (2 ^ keyCount N) (p a)) (2 ^ N .«letter_count») (not-true (everyState N p) e) in
+          let v = all-false (p (u .0)) (2 ^ keyCount N) (u .2) in
+          record { input = u .0; key = v .0; clean = record { input = u .1; key = v .1 }; fails = v .2 }
+
+  -- ---- C1
+
+  -- v is a key vertex that some clean state excites to 2 or 3
+  pub record BreaksC1 (v : ℕ) : Type 0 where
+    pub key : isKey N v ≡ true
+    pub input : ℕ
+    pub state : ℕ
+    pub clean : Clean N input state
+    pub excited : ¬ (excitation N input state v < 2)
+
+  pub breaks-c1-iff : (v : ℕ) → (breaksC1 N v ≡ true) ↔ BreaksC1 v
+  unfolding breaksC1
+  breaks-c1-iff v = (there, back)
+    where
+      there : (isKey N v && not (everyState N (λ a q. ltb (excitation N a q v) 2))) ≡ true → BreaksC1 v
+      there e =
+          let f = some-state-iff (λ a q. ltb (excitation N a q v) 2) .0 (and-right (isKey N v) _ e) in
+          record { key = and-left (isKey N v) _ e; input = f .input; state = f .key; clean = f .clean; excited = λ h. not-both _ (lt-ltb (excitation N (f .input) (f .key) v) 2 h) (f .fails) }
+
+      back : BreaksC1 v → (isKey N v && not (everyState N (λ a q. ltb (excitation N a q v) 2))) ≡ true
+      back b = both (b .key) (some-state-iff (λ a q. ltb (excitation N a q v) 2) .1
+          (record { input = b .input; key = b .state; clean = b .clean; fails = fails _ (λ t. b .excited (ltb-true (excitation N (b .input) (b .state) v) 2 t)) }))
+
+  breaks-c1-range : (v : ℕ) → BreaksC1 v → v < suc (N .«vertex_count»)
+  breaks-c1-range v b = storage-range N v (key-storage N v (b .key))
+
+  -- v is the lowest vertex that breaks C1
+  pub place-c1-some : (v : ℕ) → (placeC1 N ≡ some v) ↔ (BreaksC1 v × ((u : ℕ) → u < v → ¬ BreaksC1 u))
+  unfolding placeC1
+  place-c1-some = least-some-iff (breaksC1 N) BreaksC1 breaks-c1-iff (suc (N .«vertex_count»)) breaks-c1-range
+
+  pub place-c1-none : (placeC1 N ≡ none) ↔ C1 N
+  unfolding placeC1
+  place-c1-none = Iff·trans (least-none-iff (breaksC1 N) BreaksC1 breaks-c1-iff (suc (N .«vertex_count»)) breaks-c1-range) (there, back)
+    where
+      there : ((v : ℕ) → ¬ BreaksC1 v) → C1 N
+      there f a q k ha hq hk = binary-iff (network N a q k) .0 (by-test (ltb (network N a q k) 2) (ltb-true (network N a q k) 2)
+          (λ t. absurd (f (keyVertex N k)
+          (record { key = key-at N k hk .key; input = a; state = q; clean = record { input = ha; key = hq }; excited = λ h. not-both _ (lt-ltb (network N a q k) 2 h) t }))))
+
+      back : C1 N → (v : ℕ) → ¬ BreaksC1 v
+      back c v b =
+          let r = index-at N v (b .key) in
+          let h : network N (b .input) (b .state) (keyIndex N v) < 2 = binary-iff _ .1 (c (b .input) (b .state) (keyIndex N v) (b .clean .input) (b .clean .key) (r .below)) in
+          b .excited (rw (r .vertex) at h)
+
+  -- ---- C2
 
   pub c2-iff : (testC2 N ≡ true) ↔ C2 N
   unfolding testC2
-  c2-iff = (λ e a q c s f. never (fights N) .0 e a q c s (fights-iff N a q .1 f), λ f. never (fights N) .1 (λ a q c s e. f a q c s (fights-iff N a q .0 e)))
+  c2-iff = Iff·trans (every-state-iff (λ a q. not (stable N a q && fights N a q))) (
+    λ f a q c s g. not-and (stable N a q) (fights N a q) .0 (f a q c) (stable-iff a q .1 s) (fights-iff N a q .1 g),
+    λ f a q c. not-and (stable N a q) (fights N a q) .1 (λ s g. f a q c (stable-iff a q .0 s) (fights-iff N a q .0 g)),
+  )
 
-  unknown-iff : (a q : ℕ) → (unknownOutput N a q ≡ true) ↔ ((y : ℕ) × (isOutput N y ≡ true) × (excitation N a q y ≡ 2))
-  unfolding unknownOutput
-  unknown-iff a q = (there, λ (y, o, e). any-of _ (suc (N .«vertex_count»)) y (role-range N y 2 o) (both o (eq-eqb (excitation N a q y) 2 e)))
+  -- ---- C3
+
+  -- y is an output that some clean stable state excites to 2
+  pub record BreaksC3 (y : ℕ) : Type 0 where
+    pub output : isOutput N y ≡ true
+    pub input : ℕ
+    pub state : ℕ
+    pub clean : Clean N input state
+    pub stable : Stable N input state
+    pub excited : excitation N input state y ≡ 2
+
+  pub breaks-c3-iff : (y : ℕ) → (breaksC3 N y ≡ true) ↔ BreaksC3 y
+  unfolding breaksC3
+  breaks-c3-iff y = (there, back)
     where
-      there : unknownOutput N a q ≡ true → (y : ℕ) × (isOutput N y ≡ true) × (excitation N a q y ≡ 2)
-      there e = let r = any-found _ (suc (N .«vertex_count»)) e in (r .0, and-left (isOutput N (r .0)) _ (r .2), eqb-true (excitation N a q (r .0)) 2 (and-right (isOutput N (r .0)) _ (r .2)))
+      there : (isOutput N y && not (everyState N (λ a q. not (stable N a q && eqb (excitation N a q y) 2)))) ≡ true → BreaksC3 y
+      there e =
+          let f = some-state-iff (λ a q. not (stable N a q && eqb (excitation N a q y) 2)) .0 (and-right (isOutput N y) _ e) in
+          let t : (stable N (f .input) (f .key) && eqb (excitation N (f .input) (f .key) y) 2) ≡ true = not-false _ (f .fails) in
+          record {
+            output = and-left (isOutput N y) _ e;
+            input = f .input;
+            state = f .key;
+            clean = f .clean;
+            stable = stable-iff (f .input) (f .key) .0 (and-left (stable N (f .input) (f .key)) _ t);
+            excited = eqb-true (excitation N (f .input) (f .key) y) 2 (and-right (stable N (f .input) (f .key)) _ t);
+          }
 
-  pub c3-iff : (testC3 N ≡ true) ↔ C3 N
-  unfolding testC3
-  c3-iff = (λ e a q c s y o x. never (unknownOutput N) .0 e a q c s (unknown-iff a q .1 (y, o, x)), λ f. never (unknownOutput N) .1 (λ a q c s e. let r = unknown-iff a q .0 e in f a q c s (r .0) (r .1) (r .2)))
+      back : BreaksC3 y → (isOutput N y && not (everyState N (λ a q. not (stable N a q && eqb (excitation N a q y) 2)))) ≡ true
+      back b =
+          let t = both (stable-iff (b .input) (b .state) .1 (b .stable)) (eq-eqb (excitation N (b .input) (b .state) y) 2 (b .excited)) in
+          both (b .output) (some-state-iff (λ a q. not (stable N a q && eqb (excitation N a q y) 2)) .1
+          (record { input = b .input; key = b .state; clean = b .clean; fails = rw t }))
 
-  pub well-formed-iff : (wellFormed N ≡ true) ↔ WellFormed N
-  unfolding wellFormed
-  well-formed-iff = (
-    λ e. record { c1 = c1-iff .0 (search ands); c2 = c2-iff .0 (search ands); c3 = c3-iff .0 (search ands) },
-    λ w. both (both (c1-iff .1 (w .c1)) (c2-iff .1 (w .c2))) (c3-iff .1 (w .c3)),
+  -- y is the lowest output that breaks C3
+  pub place-c3-some : (y : ℕ) → (placeC3 N ≡ some y) ↔ (BreaksC3 y × ((u : ℕ) → u < y → ¬ BreaksC3 u))
+  unfolding placeC3
+  place-c3-some = least-some-iff (breaksC3 N) BreaksC3 breaks-c3-iff (suc (N .«vertex_count»)) (λ y b. role-range N y 2 (b .output))
+
+  pub place-c3-none : (placeC3 N ≡ none) ↔ C3 N
+  unfolding placeC3
+  place-c3-none = Iff·trans (least-none-iff (breaksC3 N) BreaksC3 breaks-c3-iff (suc (N .«vertex_count»)) (λ y b. role-range N y 2 (b .output))) (
+    λ f a q c s y o e. f y (record { output = o; input = a; state = q; clean = c; stable = s; excited = e }),
+    λ f y b. f (b .input) (b .state) (b .clean) (b .stable) y (b .output) (b .excited),
   )

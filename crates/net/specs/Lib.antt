@@ -8,4 +8,5 @@ pub mod Classes
 pub mod Excitation
 pub mod Component
 pub mod SignalTable
+pub mod Network
 pub mod WellFormed

@@ -13,7 +13,7 @@ use Rattle.ternary.specs.Excitation.{common, H, C1}
 use Rattle.ternary.specs.Passes.{settled, settleBy, mix, firstPass, secondPass}
 use Rattle.ternary.specs.Demand.{Premises}
 use Rattle.ternary.proofs.Demand.{demand3}
-use Rattle.ternary.specs.Run.{Step, start, stable, Stable, switch, stables, close, accepted, refused, step, runAll}
+use Rattle.ternary.specs.Run.{Step, start, isStable, Stable, switch, stables, close, accepted, refused, step, runAll}
 
 nand : ℕ → ℕ → ℕ
 nand x y = 1 - x * y
@@ -55,7 +55,7 @@ old-input = record { input = 3; nodes = 0; hold = false }
 
 settles : runAll 2 3 nands 3 0 (start 3 2) (no-letter ∷ hold-13 ∷ no-node ∷ switch-2 ∷ old-input ∷ nothing ∷ [])
     ≡ record { input = 0; key = 5; hold = true; marks = 7; rounds = 2 }
-unfolding nand nands runAll step refused accepted close stables switch stable start anyBelow allBelow setOf has number bit hold-13 switch-2 nothing no-letter no-node old-input
+unfolding nand nands runAll step refused accepted close stables switch isStable start anyBelow allBelow setOf has number bit hold-13 switch-2 nothing no-letter no-node old-input
 settles = refl
 
 -- NOR latch, key nodes (Q bar, Q), letters (S, R): 11 to 00 from 00 stays unknown
@@ -85,7 +85,7 @@ nand-binary x y = go (x * y)
     go (suc n) = inl (omega arith)
 
 nands-premises : Premises 2 3 nands 3 0 2
-unfolding nands nand stable bit
+unfolding nands nand isStable bit
 nands-premises = record { c1 = c1; old = lit< tt; new = lit< tt; key = lit< tt; rest = rest }
   where
     c1 : C1 2 3 nands

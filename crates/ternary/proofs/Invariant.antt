@@ -12,7 +12,7 @@ use Rattle.ternary.specs.Lists.{table, allBelow}
 use Rattle.ternary.specs.Bits.{bit, has, setOf}
 use Rattle.ternary.specs.Signal.{Covers, at, Completes}
 use Rattle.ternary.specs.Passes.{mix}
-use Rattle.ternary.specs.Run.{Run, Step, start, stable, switch, stables, close, accepted, refused, step, runAll}
+use Rattle.ternary.specs.Run.{Run, Step, start, isStable, switch, stables, close, accepted, refused, step, runAll}
 use Rattle.ternary.specs.Demand.{Premises}
 use Rattle.ternary.proofs.Tests.{by-test, or-true}
 use Rattle.ternary.proofs.ListLaws.{all-at}
@@ -56,8 +56,8 @@ module _ (L h : ℕ) (F : ℕ → ℕ → ℕ → ℕ) (A B q : ℕ) where
     stay n k v l c = covers-trans (at (T n) k) (at (T (suc n)) k) v (second-descends L h F A B q g n .places k (omega (arith, size n))) c
 
     -- a node that is stable under B is covered by the next vector
-    stable-covers : (n x k : ℕ) → k < h → Completes (T n) x → stable F B x k ≡ true → Covers (at (T (suc n)) k) (bit x k)
-    unfolding stable
+    stable-covers : (n x k : ℕ) → k < h → Completes (T n) x → isStable F B x k ≡ true → Covers (at (T (suc n)) k) (bit x k)
+    unfolding isStable
     stable-covers n x k l cx e = rw (eqb-true (F B x k) (bit x k) e) at (next-covers n x k l cx)
 
     -- switching keeps the key state within a vector that covers the excitation
@@ -74,7 +74,7 @@ module _ (L h : ℕ) (F : ℕ → ℕ → ℕ → ℕ) (A B q : ℕ) where
     -- the nodes that `stables` marks are covered by the next vector
     stables-covered : (n x : ℕ) → Completes (T n) x → (k : ℕ) → k < h → has (stables h F B x) k ≡ true → Covers (at (T (suc n)) k) (bit x k)
     unfolding stables
-    stables-covered n x cx k l e = stable-covers n x k l cx (sym (has-setOf h (stable F B x) k l) ∙ e)
+    stables-covered n x cx k l e = stable-covers n x k l cx (sym (has-setOf h (isStable F B x) k l) ∙ e)
 
     -- ---- a step under hold
 
@@ -84,7 +84,7 @@ module _ (L h : ℕ) (F : ℕ → ℕ → ℕ → ℕ) (A B q : ℕ) where
       x′ = switch h F B nodes x
 
       m′ : ℕ
-      m′ = setOf h (λ k. has m k || has nodes k || stable F B x′ k)
+      m′ = setOf h (λ k. has m k || has nodes k || isStable F B x′ k)
 
       cx′ : Completes (T n) x′
       unfolding x′
@@ -103,11 +103,11 @@ module _ (L h : ℕ) (F : ℕ → ℕ → ℕ → ℕ) (A B q : ℕ) where
       marks-covered : (k : ℕ) → k < h → has m′ k ≡ true → Covers (at (T (suc n)) k) (bit x′ k)
       unfolding m′
       marks-covered k l e =
-          let i : (has m k || has nodes k || stable F B x′ k) ≡ true = sym (has-setOf h (λ k. has m k || has nodes k || stable F B x′ k) k l) ∙ e in
+          let i : (has m k || has nodes k || isStable F B x′ k) ≡ true = sym (has-setOf h (λ k. has m k || has nodes k || isStable F B x′ k) k l) ∙ e in
           ⊎-elim
           (λ j. ⊎-elim (kept k l) (switched k l) (or-true (has m k) (has nodes k) j))
           (stable-covers n x′ k l cx′)
-          (or-true (has m k || has nodes k) (stable F B x′ k) i)
+          (or-true (has m k || has nodes k) (isStable F B x′ k) i)
 
       all-covered : allBelow h (has m′) ≡ true → Completes (T (suc n)) x′
       all-covered e = record {

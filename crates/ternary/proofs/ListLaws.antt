@@ -13,7 +13,7 @@ use lib.ListN.{length, getD, length-append, List·getD-append}
 use lib.Seq.{getD-append-seam}
 use borrow.Author.Tests.{eqb-true, eq-eqb, ltb-true, ltb-false}
 use Rattle.ternary.specs.Lists.{table, same, anyBelow, allBelow, countBelow, listBelow, leastBelow}
-use Rattle.ternary.proofs.Tests.{and-left, and-right, both, or-true, or-left, or-right, test, by-test, fails, not-both}
+use Rattle.ternary.proofs.Tests.{and-left, and-right, and-false, both, or-true, or-left, or-right, test, by-test, fails, not-both}
 
 -- below suc n: below n, or n itself
 pub below-cases : {i n : ℕ} → i < suc n → (i < n) ⊎ (i ≡ n)
@@ -102,6 +102,15 @@ module _ (p : ℕ → Bool) where
   unfolding allBelow
   all-of zero f = refl
   all-of (suc n) f = both (all-of n (λ i h. f i (omega arith))) (f n (omega arith))
+
+  pub all-false : (n : ℕ) → allBelow n p ≡ false → (i : ℕ) × (i < n) × (p i ≡ false)
+  unfolding allBelow
+  all-false zero e = absurd (true≢false e)
+  all-false (suc n) e = go (all-false n) (and-false (allBelow n p) (p n) e)
+    where
+      go : (allBelow n p ≡ false → (i : ℕ) × (i < n) × (p i ≡ false)) → (allBelow n p ≡ false) ⊎ (p n ≡ false) → (i : ℕ) × (i < suc n) × (p i ≡ false)
+      go f (inl h) = let r = f h in (r .0, omega (arith, r .1), r .2)
+      go f (inr h) = (n, omega arith, h)
 
   -- ---- the least number that passes
 
@@ -241,3 +250,18 @@ module _ (p : ℕ → Bool) where
       go : (v < n → At (suc n) (countBelow v p) v) → (v < n) ⊎ (v ≡ n) → At (suc n) (countBelow v p) v
       go f (inl l) = f l
       go f (inr q) = subst (λ (j : ℕ). At (suc n) (countBelow j p) j) (sym q) (at-new n (rw q at e))
+
+-- ---- the least number with a property that a test decides
+
+module _ (p : ℕ → Bool) (P : ℕ → Type 0) (decides : (v : ℕ) → (p v ≡ true) ↔ P v) (n : ℕ) (range : (v : ℕ) → P v → v < n) where
+  pub least-none-iff : (leastBelow n p ≡ none) ↔ ((v : ℕ) → ¬ P v)
+  least-none-iff = (
+    λ e v h. not-both (p v) (decides v .1 h) (least-none p n .0 e v (range v h)),
+    λ f. least-none p n .1 (λ v _. fails (p v) (λ t. f v (decides v .0 t))),
+  )
+
+  pub least-some-iff : (v : ℕ) → (leastBelow n p ≡ some v) ↔ (P v × ((u : ℕ) → u < v → ¬ P u))
+  least-some-iff v = (
+    λ e. let l = least-some p n v .0 e in (decides v .0 (l .passes), λ u h b. not-both (p u) (decides u .1 b) (l .earlier u h)),
+    λ h. least-some p n v .1 (record { below = range v (h .0); passes = decides v .1 (h .0); earlier = λ u i. fails (p u) (λ t. h .1 u i (decides u .0 t)) }),
+  )

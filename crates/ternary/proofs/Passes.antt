@@ -15,7 +15,6 @@ use Rattle.ternary.specs.Lists.{table}
 use Rattle.ternary.specs.Signal.{X, Signal, Covers, at, Completes}
 use Rattle.ternary.specs.Excitation.{H, Disagree}
 use Rattle.ternary.specs.Passes.{mix, Pass, settleBy, firstPass, secondPass}
-use Rattle.ternary.specs.Run.{stable}
 use Rattle.ternary.specs.Demand.{Premises}
 use Rattle.ternary.proofs.BitLaws.{bit-lt}
 use Rattle.ternary.proofs.SignalLaws.{covers-binary, Above, above-refl, above-trans, above-completes, completes-bits, covers-refl, at-table, unknowns, unknowns-le, unknowns-above}
@@ -119,11 +118,11 @@ module _ (L h : ℕ) (F : ℕ → ℕ → ℕ → ℕ) (A B q : ℕ) where
 
   module _ (g : Premises L h F A B q) where
     pub first-ascends : (m : ℕ) → Above (iterate f₁ (suc m) r₀) (iterate f₁ m r₀)
-    unfolding iterate stable
+    unfolding iterate
     first-ascends zero = record {
       lengths = length-table h (bit q) ∙ sym (length-H F h (mix L A B) r₀);
       places = λ k l. let i : k < h = omega (arith, length-H F h (mix L A B) r₀) in
-          rw (at-table h (bit q) k i, ← eqb-true (F A q k) (bit q k) (g .rest k i))
+          rw (at-table h (bit q) k i, ← g .rest k i)
           (H-covers F h (mix L A B) r₀ k A q i (completes-mix L A B A (g .old) (λ j l. inl refl)) (completes-bits h q (g .key)));
     }
     first-ascends (suc m) = H-mono F h (mix L A B) (iterate f₁ (suc m) r₀) (mix L A B) (iterate f₁ m r₀) (above-refl (mix L A B)) (first-ascends m)

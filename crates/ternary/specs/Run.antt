@@ -26,13 +26,13 @@ unfoldable pub start : ℕ → ℕ → Run
 start A q = record { input = A; key = q; hold = false; marks = 0; rounds = 0 }
 
 -- does key node k have the value that F excites it to?
-unfoldable pub stable : (ℕ → ℕ → ℕ → ℕ) → ℕ → ℕ → ℕ → Bool
-stable F a q k = eqb (F a q k) (bit q k)
+unfoldable pub isStable : (ℕ → ℕ → ℕ → ℕ) → ℕ → ℕ → ℕ → Bool
+isStable F a q k = eqb (F a q k) (bit q k)
 
 module _ (h : ℕ) (F : ℕ → ℕ → ℕ → ℕ) where
-  -- every key node is stable
+  -- a state is stable if every key node is
   abbrev pub Stable : ℕ → ℕ → Type 0
-  Stable a q = (k : ℕ) → k < h → stable F a q k ≡ true
+  Stable a q = (k : ℕ) → k < h → F a q k ≡ bit q k
 
   -- the key state after the nodes of the set have switched at once
   unfoldable pub switch : ℕ → ℕ → ℕ → ℕ
@@ -40,7 +40,7 @@ module _ (h : ℕ) (F : ℕ → ℕ → ℕ → ℕ) where
 
   -- the set of the nodes that are stable
   unfoldable pub stables : ℕ → ℕ → ℕ
-  stables a q = setOf h (stable F a q)
+  stables a q = setOf h (isStable F a q)
 
   -- where every key node is marked one round is counted, and only the nodes then stable keep a mark
   unfoldable pub close : Run → Run
@@ -61,7 +61,7 @@ module _ (h : ℕ) (F : ℕ → ℕ → ℕ → ℕ) where
           key = q;
           hold = true;
           rounds = s .rounds;
-          marks = setOf h (λ k. has (s .marks) k || has (e .nodes) k || stable F a q k);
+          marks = setOf h (λ k. has (s .marks) k || has (e .nodes) k || isStable F a q k);
         })
         | false ↦ elim (e .hold) [
           | true ↦ record { input = a; key = q; hold = true; marks = stables a q; rounds = s .rounds }
@@ -78,7 +78,7 @@ module _ (L h : ℕ) (F : ℕ → ℕ → ℕ → ℕ) (A B : ℕ) where
       || anyBelow L (λ j. not (eqb (bit (e .input) j) (bit A j)) && not (eqb (bit (e .input) j) (bit B j)))
       || ((s .hold || e .hold) && not (eqb (e .input) B))
       || leb (2 ^ h) (e .nodes)
-      || anyBelow h (λ k. has (e .nodes) k && stable F (e .input) (s .key) k)
+      || anyBelow h (λ k. has (e .nodes) k && isStable F (e .input) (s .key) k)
 
   -- a refused step alters nothing
   unfoldable pub step : Run → Step → Run
