@@ -10,3 +10,4 @@ pub mod Component
 pub mod SignalTable
 pub mod Network
 pub mod WellFormed
+pub mod Ternary
