@@ -1,0 +1,12 @@
+-- The sheet format: what a reader of the contracts must believe.
+pub mod Limits
+pub mod Field
+pub mod Line
+pub mod Rows
+pub mod Record
+pub mod Rules
+pub mod Graph
+pub mod Reading
+pub mod Writing
+pub mod Valid
+pub mod Job

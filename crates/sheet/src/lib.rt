@@ -1,0 +1,56 @@
+//! The sheet: its lines, what reading one answers, and the record that an accepted sheet gives.
+//! What a sheet means stands in specs/, the laws of it in proofs/.
+
+ghost use mathlib.Core.Path.{_≡_};
+ghost use Rattle.sheet.specs.Limits.{widths};
+
+use net::Net;
+
+// Lines of five fields, four columns each, ended by byte 10.
+pub struct Sheet;
+
+impl Sheet {
+    pub const FIELD_WIDTH: usize = 4;
+    pub const FIELDS: usize = 5;
+    pub const LINE_WIDTH: usize = Sheet::FIELD_WIDTH * Sheet::FIELDS + 1;
+    // A header, and a line for each vertex and each edge.
+    pub const MOST_BYTES: usize = Sheet::LINE_WIDTH * (1 + Net::MOST_VERTICES + Net::MOST_EDGES);
+}
+
+// An answer is 0 or a number of document 01, with a place.
+pub struct Answer {
+    pub number: u8,
+    pub place: u16,
+}
+
+// What reading a sheet gives: under a number the record is empty.
+pub struct Reading {
+    pub answer: Answer,
+    pub net: Net,
+}
+
+// A job line asks for settling from an old input state to a new one, from a start.
+pub enum JobLine {
+    Asked(u32, u32, u32),
+    Refused,
+}
+
+// The widths as one value, to hold the constants to the definitions.
+pub struct Widths {
+    pub field: usize,
+    pub fields: usize,
+    pub line: usize,
+    pub sheet: usize,
+}
+
+// The code's widths are those of the definitions.
+pub fn widths_in_force() -> Widths
+    ensures { λ r. ⌜ r ≡ widths ⌝ }
+{
+    Widths {
+        field: Sheet::FIELD_WIDTH,
+        fields: Sheet::FIELDS,
+        line: Sheet::LINE_WIDTH,
+        sheet: Sheet::MOST_BYTES,
+    }
+}
