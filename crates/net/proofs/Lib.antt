@@ -9,6 +9,8 @@ pub mod Components
 pub mod Local
 pub mod WellFormed
 pub mod SignalTable
+pub mod SignalLists
+pub mod LocalFights
 pub mod Concrete
 pub mod Examples
 pub mod Nands

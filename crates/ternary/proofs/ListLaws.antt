@@ -7,13 +7,13 @@ use mathlib.Core.List.{List, [], _∷_, _++_, List·Memᴰ, List·Memᴰ·head, 
 use mathlib.Core.Option.{Option, none, some}
 use native.Mathlib.Nat.{not-suc-le-zero, le-of-suc-le-suc}
 use native.Mathlib.Omega.{arith}
-use native.Mathlib.Decide.{ℕ-discrete}
+use native.Mathlib.Decide.{ℕ-discrete, le-ind}
 use lib.Dec.{eqb, ltb}
 use lib.ListN.{length, getD, length-append, List·getD-append}
 use lib.Seq.{getD-append-seam}
 use borrow.Author.Tests.{eqb-true, eq-eqb, ltb-true, ltb-false}
 use Rattle.ternary.specs.Lists.{table, same, anyBelow, allBelow, countBelow, listBelow, leastBelow}
-use Rattle.ternary.proofs.Tests.{and-left, and-right, and-false, both, or-true, or-left, or-right, test, by-test, fails, not-both}
+use Rattle.ternary.proofs.Tests.{and-left, and-right, and-false, both, or-true, or-left, or-right, test, by-test, cond-by, fails, not-both}
 
 -- below suc n: below n, or n itself
 pub below-cases : {i n : ℕ} → i < suc n → (i < n) ⊎ (i ≡ n)
@@ -250,6 +250,27 @@ module _ (p : ℕ → Bool) where
       go : (v < n → At (suc n) (countBelow v p) v) → (v < n) ⊎ (v ≡ n) → At (suc n) (countBelow v p) v
       go f (inl l) = f l
       go f (inr q) = subst (λ (j : ℕ). At (suc n) (countBelow j p) j) (sym q) (at-new n (rw q at e))
+
+  -- ---- the list rises
+
+  count-step : (k : ℕ) → countBelow k p ≤ countBelow (suc k) p
+  unfolding countBelow
+  count-step k = cond-by (λ (c : ℕ). countBelow k p ≤ c) (p k) (λ _. omega arith) (λ _. omega arith)
+
+  count-mono : (m n : ℕ) → m ≤ n → countBelow m p ≤ countBelow n p
+  count-mono m n l = le-ind (λ (k : ℕ). countBelow m p ≤ countBelow k p) (omega arith) (λ k i c. omega (arith, c, count-step k)) n l
+
+  pub list-rising : (n i j : ℕ) → i < j → j < length (listBelow n p) → getD (listBelow n p) i 0 < getD (listBelow n p) j 0
+  list-rising n i j h l =
+      let u = place-at n i (omega (arith, length-list n)) in
+      let v = place-at n j (omega (arith, length-list n)) in
+      rw (u .1 .reads, v .1 .reads)
+      (by-test (ltb (u .0) (v .0)) (ltb-true (u .0) (v .0))
+      (λ e. absurd (omega (arith, count-mono (v .0) (u .0) (ltb-false (u .0) (v .0) e), u .1 .place, v .1 .place))))
+
+-- lists by tests that agree
+pub list-ext : (n : ℕ) (p q : ℕ → Bool) → ((k : ℕ) → p k ≡ q k) → listBelow n p ≡ listBelow n q
+list-ext n p q e = ap (listBelow n) (λ i k. e k i)
 
 -- ---- the least number with a property that a test decides
 
