@@ -1,0 +1,30 @@
+-- The call for the excitation of one vertex.
+use Prim.Native.Nat.{ℕ}
+use mathlib.Core.Bool.{not}
+use mathlib.Core.List.{List, [], _∷_}
+use mathlib.Core.Option.{none, some}
+use Rattle.net.specs.declared.Net.{Net}
+use Rattle.net.specs.Graph.{isStorage}
+use Rattle.net.specs.Excitation.{excitation}
+use Rattle.net.specs.Network.{isInputState, isKeyState}
+use Rattle.sheet.specs.Rows.{Row, row, when, firstRow}
+use Rattle.sheet.specs.Valid.{valid}
+use Rattle.verdict.specs.declared.Excited.{Excited}
+use Rattle.verdict.specs.declared.Excited.the-variants.{Value, Refused}
+
+-- record; input state not below 2 ^ L; key state not below 2 ^ h; vertex not storage
+unfoldable pub excitationRows : Net → ℕ → ℕ → ℕ → List Row
+excitationRows N a q y =
+    row 41 (when (not (valid N)))
+    ∷ row 42 (when (not (isInputState N a)))
+    ∷ row 43 (when (not (isKeyState N q)))
+    ∷ row 48 (when (not (isStorage N y)))
+    ∷ []
+
+unfoldable pub excitedOf : Net → ℕ → ℕ → ℕ → Excited
+excitedOf N a q y = elim (firstRow (excitationRows N a q y)) [ none ↦ Value (excitation N a q y) | some r ↦ Refused (r .number) ]
+
+-- the number of an answer; its place is always 0
+abbrev pub excitedNumber : Excited → ℕ
+excitedNumber (Value v) = 0
+excitedNumber (Refused n) = n

@@ -1,0 +1,2 @@
+pub mod Excited
+pub mod Verdict
