@@ -42,11 +42,12 @@ module _ (N : Net) where
 
     -- the first disjunct of `gives`
     abbrev by-symbol : ℕ → Edge → Bool
-    by-symbol s e = isVariable (decode s) && eqb (e .symbol) s && leads N (components N) (λ x. true) y e
+    by-symbol s e = eqb (e .symbol) s && leads N (components N) (λ x. true) y e
 
-    gives-signal : (s i : ℕ) → isStorage N y ≡ true → i < N .«edge_count» → gives N (components N) y s (edgeAt N i) ≡ true → Signal N y s
+    gives-signal : (s i : ℕ) → isStorage N y ≡ true → isVariable (decode s) ≡ true → i < N .«edge_count»
+        → gives N (components N) y s (edgeAt N i) ≡ true → Signal N y s
     unfolding gives carries
-    gives-signal s i sy h g = ⊎-elim by-edge by-input (or-true (by-symbol s e) _ g)
+    gives-signal s i sy v h g = ⊎-elim by-edge by-input (or-true (by-symbol s e) _ g)
       where
         e : Edge
         e = edgeAt N i
@@ -58,41 +59,44 @@ module _ (N : Net) where
         by-edge k =
             let r : Leading N everyEdge (λ x. true) y e = leads-leading N everyEdge (λ x. true) y e (search ands) in
             let q : e .symbol ≡ s = eqb-true (e .symbol) s (search ands) in
-            let v : isVariable (decode s) ≡ true = search ands in
             subst (Signal N y) q (on-edge (leading-component (λ x. true) e sy r) (to-link (r .joins)) (rw q v))
 
         by-input : leads N (components N) (carries N s) y e ≡ true → Signal N y s
         by-input k =
             let r : Leading N everyEdge (carries N s) y e = leads-leading N everyEdge (carries N s) y e k in
-            let c : (isInput N (r .to) && isVariable (decode s) && eqb ((vertexAt N (r .to)) .label) s) ≡ true = r .stops in
+            let c : (isInput N (r .to) && eqb ((vertexAt N (r .to)) .label) s) ≡ true = r .stops in
             let q : (vertexAt N (r .to)) .label ≡ s = eqb-true ((vertexAt N (r .to)) .label) s (search ands) in
-            let v : isVariable (decode s) ≡ true = search ands in
             subst (Signal N y) q (on-input (leading-component (carries N s) e sy r) (to-link (r .joins)) (search ands) (rw q v))
 
-    gives-test : (s i : ℕ) → isStorage N y ≡ true → i < N .«edge_count» → gives N (components N) y s (edgeAt N i) ≡ true → isSignal N (components N) y s ≡ true
+    gives-test : (s i : ℕ) → isStorage N y ≡ true → isVariable (decode s) ≡ true → i < N .«edge_count»
+        → gives N (components N) y s (edgeAt N i) ≡ true → isSignal N (components N) y s ≡ true
     unfolding isSignal
-    gives-test s i sy h g = both sy (any-of _ (N .«edge_count») i h g)
+    gives-test s i sy v h g = both (both sy v) (any-of _ (N .«edge_count») i h g)
 
     signal-test : {s : ℕ} → Signal N y s → isSignal N (components N) y s ≡ true
     unfolding gives carries
     signal-test (on-edge c l v) =
         let e = edgeAt N (l .index) in
-        gives-test (e .symbol) (l .index) (c .from) (l .below)
-        (or-left (by-symbol (e .symbol) e) _ (both (both v (eq-eqb (e .symbol) _ refl)) (component-leads (λ x. true) c l refl)))
+        gives-test (e .symbol) (l .index) (c .from) v (l .below)
+        (or-left (by-symbol (e .symbol) e) _ (both (eq-eqb (e .symbol) _ refl) (component-leads (λ x. true) c l refl)))
     signal-test (on-input {x = x} c l i v) =
         let e = edgeAt N (l .index) in
         let s = (vertexAt N x) .label in
-        gives-test s (l .index) (c .from) (l .below)
-        (or-right (by-symbol s e) _ (component-leads (carries N s) c l (both (both i v) (eq-eqb s _ refl))))
+        gives-test s (l .index) (c .from) v (l .below)
+        (or-right (by-symbol s e) _ (component-leads (carries N s) c l (both i (eq-eqb s _ refl))))
 
     pub is-signal-iff : (s : ℕ) → (isSignal N (components N) y s ≡ true) ↔ Signal N y s
     unfolding isSignal
     is-signal-iff s = (there, signal-test)
       where
+        found : Bool
+        found = isStorage N y && isVariable (decode s)
+
         there : isSignal N (components N) y s ≡ true → Signal N y s
         there e =
-            let r = any-found _ (N .«edge_count») (and-right (isStorage N y) _ e) in
-            gives-signal s (r .0) (and-left (isStorage N y) _ e) (r .1) (r .2)
+            let r = any-found _ (N .«edge_count») (and-right found _ e) in
+            let t = and-left found _ e in
+            gives-signal s (r .0) (and-left (isStorage N y) _ t) (and-right (isStorage N y) _ t) (r .1) (r .2)
 
     pub signal-range : {s : ℕ} → Signal N y s → s < symbolBound
     signal-range (on-edge c l v) = variable-range _ v

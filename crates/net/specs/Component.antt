@@ -39,18 +39,18 @@ components N = labels N everyEdge (N .«edge_count»)
 unfoldable pub sameComponent : Net → ℕ → ℕ → Bool
 sameComponent N y z = isStorage N y && isStorage N z && sameLabel (components N) y z
 
--- x is an input vertex whose label is the variable s
+-- x is an input vertex labelled s
 unfoldable pub carries : Net → ℕ → ℕ → Bool
-carries N s x = isInput N x && isVariable (decode s) && eqb ((vertexAt N x) .label) s
+carries N s x = isInput N x && eqb ((vertexAt N x) .label) s
 
 -- an edge e that touches the component of y, by the labels t, has symbol s or touches an input vertex labelled s
 unfoldable pub gives : Net → List ℕ → ℕ → ℕ → Edge → Bool
 gives N t y s e =
-    isVariable (decode s) && eqb (e .symbol) s && leads N t (λ x. true) y e
+    eqb (e .symbol) s && leads N t (λ x. true) y e
     || leads N t (carries N s) y e
 
 unfoldable pub isSignal : Net → List ℕ → ℕ → ℕ → Bool
-isSignal N t y s = isStorage N y && anyBelow (N .«edge_count») (λ i. gives N t y s (edgeAt N i))
+isSignal N t y s = isStorage N y && isVariable (decode s) && anyBelow (N .«edge_count») (λ i. gives N t y s (edgeAt N i))
 
 -- letters rising, then key nodes rising
 unfoldable pub signals : Net → ℕ → List ℕ
