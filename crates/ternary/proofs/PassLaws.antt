@@ -5,6 +5,7 @@ use mathlib.Core.Logic.{_≢_, ⊎-elim}
 use mathlib.Core.Bool.{Bool, true, false}
 use mathlib.Core.List.{List}
 use native.Mathlib.Omega.{arith}
+use lib.ListN.{length}
 use native.Mathlib.Nat.{suc-inj, eq-or-lt-of-le}
 use Rattle.ternary.specs.Lists.{same}
 use Rattle.ternary.specs.Passes.{Pass, settleBy}
@@ -74,3 +75,12 @@ module _ (f : List ℕ → List ℕ) (n : ℕ) (r : List ℕ) (rank : List ℕ �
           (λ i. s .moving j (omega arith))
           (eq-or-lt-of-le l) in
           ne (s .ended (omega (arith, climb (suc (p .steps)) moves, most (suc (p .steps)))))
+
+-- a pass keeps the length of its vector
+pub settleBy-length : (f : List ℕ → List ℕ) (h : ℕ) → ((r : List ℕ) → length (f r) ≡ h)
+    → (n : ℕ) (r : List ℕ) → length r ≡ h → length ((settleBy f n r) .vector) ≡ h
+unfolding settleBy
+settleBy-length f h e zero r l = l
+settleBy-length f h e (suc n) r l = by-test (same (f r) r)
+    (λ t. rw (t, settleBy) l)
+    (λ t. rw (t, settleBy) (settleBy-length f h e n (f r) (e r)))

@@ -14,12 +14,12 @@ use Rattle.ternary.specs.Bits.{bit}
 use Rattle.ternary.specs.Lists.{table}
 use Rattle.ternary.specs.Signal.{X, Signal, Covers, at, Completes}
 use Rattle.ternary.specs.Excitation.{H, Disagree}
-use Rattle.ternary.specs.Passes.{mix, Pass, settleBy, firstPass, secondPass}
+use Rattle.ternary.specs.Passes.{mix, Pass, settleBy, firstPass, secondPass, settled}
 use Rattle.ternary.specs.Demand.{Premises}
 use Rattle.ternary.proofs.BitLaws.{bit-lt}
 use Rattle.ternary.proofs.SignalLaws.{covers-binary, Above, above-refl, above-trans, above-completes, completes-bits, covers-refl, at-table, unknowns, unknowns-le, unknowns-above}
 use Rattle.ternary.proofs.ListLaws.{length-table}
-use Rattle.ternary.proofs.PassLaws.{iterate, stopped, fixed}
+use Rattle.ternary.proofs.PassLaws.{iterate, stopped, fixed, settleBy-length}
 use Rattle.ternary.proofs.ExcitationLaws.{length-H, H-signal, H-covers, H-mono, fixed-unknown}
 use Rattle.ternary.proofs.Tests.{by-test}
 
@@ -95,6 +95,17 @@ module _ (f : List ℕ → List ℕ) (h : ℕ) (r : List ℕ)
       let w = unknowns-above (iterate f m r) (iterate f (suc m) r) (down m) (λ k l. g m k (omega (arith, lengths m))) in
       let l : unknowns (iterate f (suc m) r) < unknowns (iterate f m r) = lt-of-le-of-ne (w .0) (λ e. ne (w .1 e)) in
       omega (arith, few m)))
+
+-- ---- both vectors have a place for each key node, whatever the premises
+
+module _ (L h : ℕ) (F : ℕ → ℕ → ℕ → ℕ) (A B q : ℕ) where
+  pub first-vector-length : length ((settled L h F A B q) .r) ≡ h
+  unfolding settled firstPass
+  first-vector-length = settleBy-length (H F h (mix L A B)) h (length-H F h (mix L A B)) h (table h (bit q)) (length-table h (bit q))
+
+  pub second-vector-length : length ((settled L h F A B q) .t) ≡ h
+  unfolding settled secondPass
+  second-vector-length = settleBy-length (H F h (table L (bit B))) h (length-H F h (table L (bit B))) h ((firstPass L h F A B q) .vector) first-vector-length
 
 -- ---- the two passes
 

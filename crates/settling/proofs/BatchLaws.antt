@@ -1,0 +1,151 @@
+-- Laws of a batch: where each job's bytes stand, and that a batch fit for all its jobs runs them.
+use Prim.Native.Nat.{ℕ, zero, suc, _+_, _-_, _*_, _/_, _≤_, _<_}
+use native.Mathlib.Nat.{zero-mul, suc-mul, add-comm}
+use native.Mathlib.Omega.{arith}
+use mathlib.Core.Path.{_≡_, refl, sym, ap, ap₂, subst, _∙_}
+use mathlib.Core.Logic.{_≢_}
+use mathlib.Core.List.{List, [], _∷_, _++_}
+use mathlib.Core.Option.{Option, none, some}
+use lib.ListN.{length, take, drop, getD, length-append, length-drop, length-take, take-append-drop}
+use lib.Seq.{drop-drop, take-at, drop-at, length-take-le, take-append-le}
+use Rattle.ternary.proofs.Passes.{first-vector-length, second-vector-length}
+use Rattle.net.specs.declared.Net.{Net}
+use Rattle.net.specs.Graph.{keyCount}
+use Rattle.net.specs.Network.{network}
+use Rattle.sheet.specs.Limits.{lineWidth}
+use Rattle.sheet.specs.declared.Answer.{Answer}
+use Rattle.sheet.specs.declared.JobLine.{JobLine}
+use Rattle.sheet.specs.declared.JobLine.the-variants.{Asked, Refused}
+use Rattle.sheet.specs.Rows.{Row, firstRow}
+use Rattle.sheet.specs.Job.{jobOf}
+use Rattle.settling.specs.Settle.{Settlement, written, settleUnder}
+use Rattle.settling.specs.Batch.{pieces, jobWidth, answerWidth, jobRows, jobSettlement, runJobs}
+use Rattle.settling.proofs.SettleLaws.{settle-none, settle-some, length-written-r, length-written-t}
+
+-- ---- pieces of one width in a row
+
+drop-suc-mul : {A : Type 0} (n w : ℕ) (l : List A) → drop (suc n * w) l ≡ drop (n * w) (drop w l)
+drop-suc-mul n w l = rw (suc-mul, add-comm (n * w) w) (sym (drop-drop (n * w) w l))
+
+step-drop : {A : Type 0} (n w : ℕ) (xs ys : List A) → length xs ≡ w → drop (suc n * w) (xs ++ ys) ≡ drop (n * w) ys
+step-drop n w xs ys e = drop-suc-mul n w (xs ++ ys) ∙ ap (drop (n * w)) (drop-at xs ys w e)
+
+abbrev pub vectorsOf : Settlement → List ℕ
+vectorsOf s = s .r ++ s .t
+
+abbrev pub answerBytes : Settlement → List ℕ
+answerBytes s = s .answer .number ∷ s .answer .«first_steps» ∷ s .answer .«second_steps» ∷ []
+
+module _ (N : Net) where
+  -- a job keeps the length of its own bytes
+  pub job-length : (j : JobLine) (own : List ℕ) → length own ≡ jobWidth N → length (vectorsOf (jobSettlement N j own)) ≡ jobWidth N
+  unfolding jobSettlement
+  job-length (Asked A B q) own e = go (firstRow (jobRows N A B q)) refl
+    where
+      R : List ℕ
+      R = take (keyCount N) own
+
+      T : List ℕ
+      T = drop (keyCount N) own
+
+      R-length : length R ≡ keyCount N
+      R-length = length-take-le (keyCount N) own (omega arith)
+
+      T-length : length T ≡ keyCount N
+      T-length = length-drop (keyCount N) own ∙ omega arith
+
+      go : (o : Option Answer) → firstRow (jobRows N A B q) ≡ o → length (vectorsOf (settleUnder (jobRows N A B q) N A B q R T)) ≡ jobWidth N
+      go none f =
+          rw (settle-none N A B q (jobRows N A B q) R T f, length-append)
+          (omega (arith, length-written-r N A B q R T (omega (arith, R-length)), length-written-t N A B q R T (omega (arith, T-length)), R-length, T-length))
+      go (some a) f = rw (settle-some N A B q (jobRows N A B q) R T a f, take-append-drop) e
+  job-length Refused own e = ap length (take-append-drop (keyCount N) own) ∙ e
+
+  -- a refused job leaves its own bytes
+  pub job-refused : (j : JobLine) (own : List ℕ) → jobSettlement N j own .answer .number ≢ 0 → vectorsOf (jobSettlement N j own) ≡ own
+  unfolding jobSettlement written
+  job-refused (Asked A B q) own ne = go (firstRow (jobRows N A B q)) refl
+    where
+      R : List ℕ
+      R = take (keyCount N) own
+
+      T : List ℕ
+      T = drop (keyCount N) own
+
+      go : (o : Option Answer) → firstRow (jobRows N A B q) ≡ o → vectorsOf (settleUnder (jobRows N A B q) N A B q R T) ≡ own
+      go none f = absurd (ne (ap (λ (s : Settlement). s .answer .number) (settle-none N A B q (jobRows N A B q) R T f)))
+      go (some a) f = rw (settle-some N A B q (jobRows N A B q) R T a f) (take-append-drop (keyCount N) own)
+  job-refused Refused own ne = take-append-drop (keyCount N) own
+
+  -- ---- the places of a job's bytes
+
+  -- the first job has its own bytes, and the later ones have theirs
+  own-length : (j : List ℕ) (js : List (List ℕ)) (results : List ℕ) → suc (length js) * jobWidth N ≤ length results
+      → length (vectorsOf (jobSettlement N (jobOf j) (take (jobWidth N) results))) ≡ jobWidth N
+  own-length j js results fits =
+      let more : suc (length js) * jobWidth N ≡ length js * jobWidth N + jobWidth N = suc-mul (length js) (jobWidth N) in
+      job-length (jobOf j) (take (jobWidth N) results) (length-take-le (jobWidth N) results (omega arith))
+
+  rest-fits : (j : List ℕ) (js : List (List ℕ)) (results : List ℕ) → suc (length js) * jobWidth N ≤ length results
+      → length js * jobWidth N ≤ length (drop (jobWidth N) results)
+  rest-fits j js results fits =
+      let more : suc (length js) * jobWidth N ≡ length js * jobWidth N + jobWidth N = suc-mul (length js) (jobWidth N) in
+      rw length-drop (omega arith)
+
+  -- job n of a list of jobs, from 0, on its own bytes
+  abbrev pub settlementAt : List (List ℕ) → ℕ → List ℕ → Settlement
+  settlementAt js n results = jobSettlement N (jobOf (getD js n [])) (take (jobWidth N) (drop (n * jobWidth N) results))
+
+  pub results-at : (js : List (List ℕ)) (results answers : List ℕ) (n : ℕ) → n < length js → length js * jobWidth N ≤ length results
+      → take (jobWidth N) (drop (n * jobWidth N) (runJobs N js results answers .results)) ≡ vectorsOf (settlementAt js n results)
+  unfolding runJobs
+  results-at [] results answers n h fits = absurd (omega arith)
+  results-at (j ∷ js) results answers zero h fits = rw zero-mul (take-at (vectorsOf (jobSettlement N (jobOf j) (take (jobWidth N) results))) _ (jobWidth N) (own-length j js results fits))
+  results-at (j ∷ js) results answers (suc n) h fits =
+      ap (take (jobWidth N)) (step-drop n (jobWidth N) (vectorsOf (jobSettlement N (jobOf j) (take (jobWidth N) results))) _ (own-length j js results fits))
+      ∙ results-at js (drop (jobWidth N) results) (drop answerWidth answers) n (omega arith) (rest-fits j js results fits)
+      ∙ ap (λ (own : List ℕ). vectorsOf (jobSettlement N (jobOf (getD js n [])) (take (jobWidth N) own))) (sym (drop-suc-mul n (jobWidth N) results))
+
+  pub answers-at : (js : List (List ℕ)) (results answers : List ℕ) (n : ℕ) → n < length js
+      → take answerWidth (drop (n * answerWidth) (runJobs N js results answers .answers)) ≡ answerBytes (settlementAt js n results)
+  unfolding runJobs
+  answers-at [] results answers n h = absurd (omega arith)
+  answers-at (j ∷ js) results answers zero h = rw zero-mul
+  answers-at (j ∷ js) results answers (suc n) h =
+      ap (take answerWidth) (step-drop n answerWidth (answerBytes (jobSettlement N (jobOf j) (take (jobWidth N) results))) _ refl)
+      ∙ answers-at js (drop (jobWidth N) results) (drop answerWidth answers) n (omega arith)
+      ∙ ap (λ (own : List ℕ). answerBytes (jobSettlement N (jobOf (getD js n [])) (take (jobWidth N) own))) (sym (drop-suc-mul n (jobWidth N) results))
+
+  -- the bytes after those of all jobs stay
+  pub results-rest : (js : List (List ℕ)) (results answers : List ℕ) → length js * jobWidth N ≤ length results
+      → drop (length js * jobWidth N) (runJobs N js results answers .results) ≡ drop (length js * jobWidth N) results
+  unfolding runJobs
+  results-rest [] results answers fits = refl
+  results-rest (j ∷ js) results answers fits =
+      step-drop (length js) (jobWidth N) (vectorsOf (jobSettlement N (jobOf j) (take (jobWidth N) results))) _ (own-length j js results fits)
+      ∙ results-rest js (drop (jobWidth N) results) (drop answerWidth answers) (rest-fits j js results fits)
+      ∙ sym (drop-suc-mul (length js) (jobWidth N) results)
+
+  pub answers-rest : (js : List (List ℕ)) (results answers : List ℕ)
+      → drop (length js * answerWidth) (runJobs N js results answers .answers) ≡ drop (length js * answerWidth) answers
+  unfolding runJobs
+  answers-rest [] results answers = refl
+  answers-rest (j ∷ js) results answers =
+      step-drop (length js) answerWidth (answerBytes (jobSettlement N (jobOf j) (take (jobWidth N) results))) _ refl
+      ∙ answers-rest js (drop (jobWidth N) results) (drop answerWidth answers)
+      ∙ sym (drop-suc-mul (length js) answerWidth answers)
+
+-- ---- the pieces of a batch's bytes
+
+pub length-pieces : (n : ℕ) (jobs : List ℕ) → length (pieces n jobs) ≡ n
+unfolding pieces
+length-pieces zero jobs = refl
+length-pieces (suc n) jobs = ap suc (length-pieces n (drop lineWidth jobs))
+
+-- piece n, from 0, is a line's bytes from byte n times that width
+pub piece-at : (count : ℕ) (jobs : List ℕ) (n : ℕ) → n < count → getD (pieces count jobs) n [] ≡ take lineWidth (drop (n * lineWidth) jobs)
+unfolding pieces
+piece-at zero jobs n h = absurd (omega arith)
+piece-at (suc count) jobs zero h = refl
+piece-at (suc count) jobs (suc n) h =
+    piece-at count (drop lineWidth jobs) n (omega arith) ∙ ap (take lineWidth) (sym (drop-suc-mul n lineWidth jobs))
