@@ -1,2 +1,3 @@
 pub mod Opened
 pub mod Table
+pub mod Demand3

@@ -1,26 +1,29 @@
 -- Laws of a batch: where each job's bytes stand, and that a batch fit for all its jobs runs them.
-use Prim.Native.Nat.{ℕ, zero, suc, _+_, _-_, _*_, _/_, _≤_, _<_}
+use Prim.Native.Nat.{ℕ, zero, suc, _+_, _*_, _≤_, _<_}
 use native.Mathlib.Nat.{zero-mul, suc-mul, add-comm}
 use native.Mathlib.Omega.{arith}
-use mathlib.Core.Path.{_≡_, refl, sym, ap, ap₂, subst, _∙_}
+use mathlib.Core.Bool.{true}
+use mathlib.Core.Path.{_≡_, refl, sym, ap, _∙_}
 use mathlib.Core.Logic.{_≢_}
 use mathlib.Core.List.{List, [], _∷_, _++_}
 use mathlib.Core.Option.{Option, none, some}
-use lib.ListN.{length, take, drop, getD, length-append, length-drop, length-take, take-append-drop}
-use lib.Seq.{drop-drop, take-at, drop-at, length-take-le, take-append-le}
-use Rattle.ternary.proofs.Passes.{first-vector-length, second-vector-length}
+use lib.ListN.{length, take, drop, getD, length-append, length-drop, take-append-drop}
+use lib.Seq.{drop-drop, take-at, drop-at, length-take-le}
+use borrow.Author.Tests.{le-ltb}
 use Rattle.net.specs.declared.Net.{Net}
 use Rattle.net.specs.Graph.{keyCount}
-use Rattle.net.specs.Network.{network}
+use Rattle.net.specs.WellFormed.{C1}
+use Rattle.net.proofs.WellFormed.{place-c1-none}
 use Rattle.sheet.specs.Limits.{lineWidth}
 use Rattle.sheet.specs.declared.Answer.{Answer}
 use Rattle.sheet.specs.declared.JobLine.{JobLine}
 use Rattle.sheet.specs.declared.JobLine.the-variants.{Asked, Refused}
-use Rattle.sheet.specs.Rows.{Row, firstRow}
+use Rattle.sheet.specs.Rows.{answer, firstRow}
+use Rattle.sheet.specs.Valid.{valid}
 use Rattle.sheet.specs.Job.{jobOf}
 use Rattle.settling.specs.Settle.{Settlement, written, settleUnder}
-use Rattle.settling.specs.Batch.{pieces, jobWidth, answerWidth, jobRows, jobSettlement, runJobs}
-use Rattle.settling.proofs.SettleLaws.{settle-none, settle-some, length-written-r, length-written-t}
+use Rattle.settling.specs.Batch.{jobCount, pieces, jobWidth, answerWidth, jobRows, jobSettlement, runJobs, batchRows, batchOf}
+use Rattle.settling.proofs.SettleLaws.{Startable, inputs-pass, start-passes, rest-passes, settle-none, settle-some, length-written-r, length-written-t}
 
 -- ---- pieces of one width in a row
 
@@ -149,3 +152,34 @@ piece-at zero jobs n h = absurd (omega arith)
 piece-at (suc count) jobs zero h = refl
 piece-at (suc count) jobs (suc n) h =
     piece-at count (drop lineWidth jobs) n (omega arith) ∙ ap (take lineWidth) (sym (drop-suc-mul n lineWidth jobs))
+
+-- ---- a batch and a job that no row refuses
+
+pub job-accepts : (N : Net) (A B q : ℕ) → Startable N A B q → (own : List ℕ)
+    → jobSettlement N (Asked A B q) own ≡ written N A B q (take (keyCount N) own) (drop (keyCount N) own)
+unfolding jobSettlement jobRows firstRow
+job-accepts N A B q s own = settle-none N A B q (jobRows N A B q) (take (keyCount N) own) (drop (keyCount N) own)
+    (rw (inputs-pass N A B q s, start-passes N A B q s, rest-passes N A B q s))
+
+batch-rows-pass : (N : Net) (count : ℕ) (results answers : List ℕ) → valid N ≡ true → C1 N
+    → count * jobWidth N ≤ length results → count * answerWidth ≤ length answers → firstRow (batchRows N count results answers) ≡ none
+unfolding batchRows firstRow
+batch-rows-pass N count results answers v c hr ha =
+    rw (v, place-c1-none N .1 c, le-ltb (length results) (count * jobWidth N) hr, le-ltb (length answers) (count * answerWidth) ha)
+
+pub batch-accepts : (N : Net) (jobs results answers : List ℕ) → valid N ≡ true → C1 N
+    → jobCount jobs * jobWidth N ≤ length results → jobCount jobs * answerWidth ≤ length answers
+    → batchOf N jobs results answers ≡ record { answer = answer 0 0; buffers = runJobs N (pieces (jobCount jobs) jobs) results answers }
+unfolding batchOf
+batch-accepts N jobs results answers v c hr ha = rw (batch-rows-pass N (jobCount jobs) results answers v c hr ha, batchOf)
+
+-- a batch refused as a whole changes no byte
+pub batch-refused : (N : Net) (jobs results answers : List ℕ) → batchOf N jobs results answers .answer .number ≢ 0
+    → batchOf N jobs results answers .buffers ≡ record { results = results; answers = answers }
+unfolding batchOf
+batch-refused N jobs results answers ne = go (firstRow (batchRows N (jobCount jobs) results answers)) refl
+  where
+    go : (o : Option Answer) → firstRow (batchRows N (jobCount jobs) results answers) ≡ o
+        → batchOf N jobs results answers .buffers ≡ record { results = results; answers = answers }
+    go none f = absurd (ne (rw (f, batchOf)))
+    go (some a) f = rw (f, batchOf)
