@@ -187,18 +187,33 @@ pub record DisagreeAt (f : ℕ → ℕ) (r : List ℕ) : Type 0 where
   pub covered₂ : Completes r w₂
   pub differ : f w₁ ≢ f w₂
 
-module _ (f : ℕ → ℕ) (r : List ℕ) where
-  -- f as a network of no letters and one key node
-  abbrev pub alone : ℕ → ℕ → ℕ → ℕ
-  alone a w k = f w
+-- f as a network: its key state is the number, and its one key node is 0
+abbrev alone : (ℕ → ℕ) → ℕ → ℕ → ℕ → ℕ
+alone f a w k = f w
 
-  pub common-alone : common alone [] r 0 ≡ commonOf f r
-  unfolding common commonOf every
-  common-alone = refl
+common-alone : (f : ℕ → ℕ) (r : List ℕ) → common (alone f) [] r 0 ≡ commonOf f r
+unfolding common commonOf every
+common-alone f r = refl
 
-  -- f is X exactly if it differs at two completions
-  pub common-of-unknown : ((w : ℕ) → w < 2 ^ length r → (f w ≡ 0) ⊎ (f w ≡ 1)) → (commonOf f r ≡ X) ↔ DisagreeAt f r
-  common-of-unknown binary = Iff·trans (subst (λ s. (s ≡ X) ↔ Disagree alone [] r 0) common-alone (binary-unknown alone [] r 0 (λ _ w _ c. binary w (c .below)))) (
-    λ d. record { w₁ = d .q₁; w₂ = d .q₂; covered₁ = d .key₁; covered₂ = d .key₂; differ = d .differ },
-    λ d. record { a₁ = 0; q₁ = d .w₁; a₂ = 0; q₂ = d .w₂; input₁ = nil; key₁ = d .covered₁; input₂ = nil; key₂ = d .covered₂; differ = d .differ },
-  )
+-- only the values at completions matter
+pub common-of-ext : (f g : ℕ → ℕ) (r : List ℕ) → ((w : ℕ) → Completes r w → f w ≡ g w) → commonOf f r ≡ commonOf g r
+common-of-ext f g r e = sym (common-alone f r)
+    ∙ common-same (alone f) [] r 0 (alone g) [] r 0 (λ a w ca cw. (a, w, ca, cw, sym (e w cw))) (λ a w ca cw. (a, w, ca, cw, e w cw))
+    ∙ common-alone g r
+
+-- where the completions of p and r give what f gives at the completions of s, F has f's common value
+pub common-of-same : (F : ℕ → ℕ → ℕ → ℕ) (p r : List ℕ) (k : ℕ) (f : ℕ → ℕ) (s : List ℕ)
+    → ((a q : ℕ) → Completes p a → Completes r q → (w : ℕ) × Completes s w × (f w ≡ F a q k))
+    → ((w : ℕ) → Completes s w → Gives F p r k (f w))
+    → common F p r k ≡ commonOf f s
+common-of-same F p r k f s there back = common-same F p r k (alone f) [] s 0
+    (λ a q ca cq. let w = there a q ca cq in (0, w .0, nil, w .1, w .2)) (λ _ w _ cw. back w cw)
+    ∙ common-alone f s
+
+-- where f is 0 or 1, its common value is X exactly if it differs at two completions
+pub common-of-unknown : (f : ℕ → ℕ) (r : List ℕ) → ((w : ℕ) → w < 2 ^ length r → (f w ≡ 0) ⊎ (f w ≡ 1)) → (commonOf f r ≡ X) ↔ DisagreeAt f r
+common-of-unknown f r binary =
+    Iff·trans (subst (λ s. (s ≡ X) ↔ Disagree (alone f) [] r 0) (common-alone f r) (binary-unknown (alone f) [] r 0 (λ _ w _ c. binary w (c .below)))) (
+      λ d. record { w₁ = d .q₁; w₂ = d .q₂; covered₁ = d .key₁; covered₂ = d .key₂; differ = d .differ },
+      λ d. record { a₁ = 0; q₁ = d .w₁; a₂ = 0; q₂ = d .w₂; input₁ = nil; key₁ = d .covered₁; input₂ = nil; key₂ = d .covered₂; differ = d .differ },
+    )

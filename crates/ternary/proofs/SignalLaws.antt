@@ -1,14 +1,14 @@
 -- Laws of signals, completions and the enumerator over them. Assumes nothing.
 use Prim.Native.Nat.{ℕ, zero, suc, _+_, _*_, _/_, _%_, _^_, _≤_, _<_}
-use mathlib.Core.Path.{_≡_, refl, sym, ap, ap₂, _∙_}
-use mathlib.Core.Bool.{Bool, true, false, _&&_, true≢false, false≢true}
-use mathlib.Core.Logic.{_⊎_, inl, inr, ⊎-elim, _↔_, _≢_}
+use mathlib.Core.Path.{_≡_, refl, sym, ap₂, _∙_}
+use mathlib.Core.Bool.{Bool, true, false, _&&_, true≢false}
+use mathlib.Core.Logic.{inl, inr, ⊎-elim, _↔_}
 use mathlib.Core.List.{List, [], _∷_, _++_}
 use native.Mathlib.Omega.{arith}
 use native.Mathlib.Nat.{pow-zero, pow-succ', one-mul, zero-add, le-of-eq, suc-inj}
 use lib.Dec.{eqb}
 use lib.ListN.{length}
-use borrow.Author.Tests.{eqb-true, eq-eqb}
+use borrow.Author.Tests.{eqb-true}
 use Rattle.ternary.specs.Bits.{bit, number, digit}
 use Rattle.ternary.specs.Signal.{X, Signal, Covers, Against, at, Completes, every}
 use Rattle.ternary.specs.Lists.{table}
@@ -183,12 +183,6 @@ every-iff r P = (
   λ f. by-test (every r P) (λ e. e)
       (λ e. let w = every-false r P e in absurd (true≢false (sym (f (w .0) (w .1)) ∙ w .2))),
 )
-
--- tests that agree on the completions
-pub every-ext : (r : List ℕ) (P Q : ℕ → Bool) → ((n : ℕ) → Completes r n → P n ≡ Q n) → every r P ≡ every r Q
-every-ext r P Q f = same-test (every r P) (every r Q)
-    (λ e. every-iff r Q .1 (λ n c. sym (f n c) ∙ every-true r P e n c))
-    (λ e. every-iff r P .1 (λ n c. f n c ∙ every-true r Q e n c))
 
 pub every-and : (r : List ℕ) (P Q : ℕ → Bool) → every r (λ n. P n && Q n) ≡ (every r P && every r Q)
 every-and r P Q = same-test (every r (λ n. P n && Q n)) (every r P && every r Q)
