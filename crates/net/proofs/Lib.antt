@@ -9,6 +9,7 @@ pub mod Components
 pub mod Local
 pub mod WellFormed
 pub mod SignalTable
+pub mod TernaryLaws
 pub mod Concrete
 pub mod Examples
 pub mod Nands

@@ -198,7 +198,8 @@ common-of-signals f r =
 -- the table grown from a function's values holds the function's common values
 pub grow-table : (n : ℕ) (f : ℕ → ℕ) (r : List ℕ) → length r ≡ n → getD (grow n (map signalOf (table (2 ^ n) f))) (ternaryIndex r) X ≡ commonOf f r
 grow-table n f r lr =
-    grow-common n (map signalOf (table (2 ^ n) f)) r lr (length-map (table (2 ^ n) f) signalOf ∙ length-table (2 ^ n) f) (λ w l. rw (entry w l) (signal-of-signal (f w)))
+    grow-common n (map signalOf (table (2 ^ n) f)) r lr
+    (length-map (table (2 ^ n) f) signalOf ∙ length-table (2 ^ n) f) (λ w l. rw (entry w l) (signal-of-signal (f w)))
     ∙ common-of-ext _ (λ w. signalOf (f w)) r (λ w c. entry w (rw lr at (c .below)))
     ∙ common-of-signals f r
   where
