@@ -11,6 +11,7 @@ pub mod WellFormed
 pub mod SignalTable
 pub mod SignalLists
 pub mod LocalFights
+pub mod TernaryLaws
 pub mod Concrete
 pub mod Examples
 pub mod Nands

@@ -1,10 +1,10 @@
 -- Ternary excitation of a net, by the signals of one component, and the two passes of a net.
 use Prim.Native.Nat.{ℕ, _-_}
 use mathlib.Core.List.{List}
-use mathlib.Core.Logic.{_≢_}
 use lib.ListN.{getD}
 use Rattle.ternary.specs.Lists.{table}
-use Rattle.ternary.specs.Signal.{at, Completes}
+use Rattle.ternary.specs.Signal.{at}
+use Rattle.ternary.specs.Excitation.{DisagreeAt}
 use Rattle.ternary.specs.Passes as passes
 use Rattle.net.specs.declared.Net.{Net}
 use Rattle.net.specs.declared.Symbol.{Symbol}
@@ -24,12 +24,8 @@ unfoldable pub signalVector : Net → ℕ → List ℕ → List ℕ → List ℕ
 signalVector N y p r = table (signalCount N y) (λ i. symbolSignal N p r (decode (getD (signals N y) i 0)))
 
 -- two assignments of the signals of y's component, both covered by those signals, at which y's excitation differs
-pub record SignalsDisagree (N : Net) (p r : List ℕ) (y : ℕ) : Type 0 where
-  pub w₁ : ℕ
-  pub w₂ : ℕ
-  pub covered₁ : Completes (signalVector N y p r) w₁
-  pub covered₂ : Completes (signalVector N y p r) w₂
-  pub differ : excitationAt N y w₁ ≢ excitationAt N y w₂
+abbrev pub SignalsDisagree : Net → List ℕ → List ℕ → ℕ → Type 0
+SignalsDisagree N p r y = DisagreeAt (excitationAt N y) (signalVector N y p r)
 
 -- both passes of a net from A to B and start q
 abbrev pub settled : Net → ℕ → ℕ → ℕ → passes.Settled

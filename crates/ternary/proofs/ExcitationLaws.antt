@@ -1,18 +1,18 @@
 -- Laws of the ternary excitation H: it covers every completion, it is monotone, and X means that two completions disagree.
 -- Assumes nothing.
-use Prim.Native.Nat.{ℕ, _<_}
+use Prim.Native.Nat.{ℕ, _^_, _<_}
 use mathlib.Core.Path.{_≡_, refl, sym, ap, _∙_, subst}
-use mathlib.Core.Logic.{_≢_, _⊎_, inl, inr, _↔_}
+use mathlib.Core.Logic.{_≢_, _⊎_, inl, inr, _↔_, Iff·trans}
 use mathlib.Core.Bool.{Bool, true, false}
-use mathlib.Core.List.{List}
+use mathlib.Core.List.{List, []}
 use native.Mathlib.Omega.{arith}
 use lib.Dec.{eqb}
 use lib.ListN.{length}
 use borrow.Author.Tests.{eqb-true, eqb-false}
 use Rattle.ternary.specs.Signal.{X, Signal, Covers, at, Completes, every}
-use Rattle.ternary.specs.Excitation.{agreed, common, H, C1, Disagree}
+use Rattle.ternary.specs.Excitation.{agreed, commonOf, common, H, C1, Disagree, DisagreeAt}
 use Rattle.ternary.proofs.ListLaws.{length-table}
-use Rattle.ternary.proofs.SignalLaws.{every-true, every-false, completion, Above, above-completes, at-table}
+use Rattle.ternary.proofs.SignalLaws.{covers-antisym, nil, every-true, every-false, completion, Above, above-completes, at-table}
 
 module _ (F : ℕ → ℕ → ℕ → ℕ) (p r : List ℕ) (k : ℕ) where
   -- every completion excites k to v
@@ -22,6 +22,10 @@ module _ (F : ℕ → ℕ → ℕ → ℕ) (p r : List ℕ) (k : ℕ) where
   -- some completion excites k to something else
   abbrev pub NotAllGive : ℕ → Type 0
   NotAllGive v = (a : ℕ) × (q : ℕ) × Completes p a × Completes r q × (F a q k ≢ v)
+
+  -- some completion excites k to v
+  abbrev pub Gives : ℕ → Type 0
+  Gives v = (a : ℕ) × (q : ℕ) × Completes p a × Completes r q × (F a q k ≡ v)
 
   -- what it means that the ternary excitation of k is s
   pub data Common : ℕ → Type 0 where
@@ -71,18 +75,20 @@ module _ (F : ℕ → ℕ → ℕ → ℕ) where
       go (ones w f) = f a q ca cq
       go (mixed w v) = tt
 
-  -- less certain signals give a less certain excitation
-  pub common-mono : (p′ r′ p r : List ℕ) → Above p′ p → Above r′ r → (k : ℕ) → Covers (common F p′ r′ k) (common F p r k)
+-- two networks F and G, each with its signals and one key node
+module _ (F : ℕ → ℕ → ℕ → ℕ) (p r : List ℕ) (k : ℕ) (G : ℕ → ℕ → ℕ → ℕ) (p′ r′ : List ℕ) (k′ : ℕ) where
+  -- what F's completions give, G's give too: then G's excitation is no more certain
+  pub common-above : ((a q : ℕ) → Completes p a → Completes r q → Gives G p′ r′ k′ (F a q k)) → Covers (common G p′ r′ k′) (common F p r k)
   unfolding Covers
-  common-mono p′ r′ p r up ur k = go (common-is p′ r′ k) (common-is p r k)
+  common-above given = go (common-is G p′ r′ k′) (common-is F p r k)
     where
-      give : {v : ℕ} → AllGive F p′ r′ k v → AllGive F p r k v
-      give f a q ca cq = f a q (above-completes p′ p a up ca) (above-completes r′ r q ur cq)
+      give : {v : ℕ} → AllGive G p′ r′ k′ v → AllGive F p r k v
+      give f a q ca cq = let w = given a q ca cq in sym (w .4) ∙ f (w .0) (w .1) (w .2) (w .3)
 
-      clash : {v : ℕ} → AllGive F p′ r′ k v → NotAllGive F p r k v → ⊥
+      clash : {v : ℕ} → AllGive G p′ r′ k′ v → NotAllGive F p r k v → ⊥
       clash f w = w .4 (give f (w .0) (w .1) (w .2) (w .3))
 
-      go : {u l : ℕ} → Common F p′ r′ k u → Common F p r k l → Covers u l
+      go : {u l : ℕ} → Common G p′ r′ k′ u → Common F p r k l → Covers u l
       go (zeros f) (zeros g) = refl
       go (zeros f) (ones w g) = absurd (clash f w)
       go (zeros f) (mixed w v) = absurd (clash f w)
@@ -93,6 +99,18 @@ module _ (F : ℕ → ℕ → ℕ → ℕ) where
       go (ones w′ f) (ones w g) = refl
       go (ones w′ f) (mixed w v) = absurd (clash f v)
       go (mixed w′ v′) c = tt
+
+-- networks whose completions give the same values have the same ternary excitation
+pub common-same : (F : ℕ → ℕ → ℕ → ℕ) (p r : List ℕ) (k : ℕ) (G : ℕ → ℕ → ℕ → ℕ) (p′ r′ : List ℕ) (k′ : ℕ)
+    → ((a q : ℕ) → Completes p a → Completes r q → Gives G p′ r′ k′ (F a q k))
+    → ((a q : ℕ) → Completes p′ a → Completes r′ q → Gives F p r k (G a q k′))
+    → common F p r k ≡ common G p′ r′ k′
+common-same F p r k G p′ r′ k′ there back = covers-antisym (common F p r k) (common G p′ r′ k′) (common-signal F p r k) (common-signal G p′ r′ k′)
+    (common-above G p′ r′ k′ F p r k back) (common-above F p r k G p′ r′ k′ there)
+
+-- less certain signals give a less certain excitation
+pub common-mono : (F : ℕ → ℕ → ℕ → ℕ) (p′ r′ p r : List ℕ) → Above p′ p → Above r′ r → (k : ℕ) → Covers (common F p′ r′ k) (common F p r k)
+common-mono F p′ r′ p r up ur k = common-above F p r k F p′ r′ k (λ a q ca cq. (a, q, above-completes p′ p a up ca, above-completes r′ r q ur cq, refl))
 
 module _ (F : ℕ → ℕ → ℕ → ℕ) (h : ℕ) where
   pub length-H : (p r : List ℕ) → length (H F h p r) ≡ h
@@ -115,14 +133,11 @@ module _ (F : ℕ → ℕ → ℕ → ℕ) (h : ℕ) where
     places = λ k l. let i : k < h = omega (arith, length-H p′ r′) in rw (at-H p′ r′ k i, at-H p r k i) (common-mono F p′ r′ p r up ur k);
   }
 
-module _ (L h : ℕ) (F : ℕ → ℕ → ℕ → ℕ) (c1 : C1 L h F) where
-  -- k is X exactly if two completions disagree on it
-  pub common-unknown : (p r : List ℕ) → length p ≡ L → length r ≡ h → (k : ℕ) → k < h → (common F p r k ≡ X) ↔ Disagree F p r k
-  common-unknown p r lp lr k l = (go (common-is F p r k), λ d. back d (common-is F p r k))
+module _ (F : ℕ → ℕ → ℕ → ℕ) (p r : List ℕ) (k : ℕ) (binary : (a q : ℕ) → Completes p a → Completes r q → (F a q k ≡ 0) ⊎ (F a q k ≡ 1)) where
+  -- where every completion gives 0 or 1, k is X exactly if two of them disagree on it
+  pub binary-unknown : (common F p r k ≡ X) ↔ Disagree F p r k
+  binary-unknown = (go (common-is F p r k), λ d. back d (common-is F p r k))
     where
-      binary : (a q : ℕ) → Completes p a → Completes r q → (F a q k ≡ 0) ⊎ (F a q k ≡ 1)
-      binary a q ca cq = c1 a q k (rw lp at (ca .below)) (rw lr at (cq .below)) l
-
       go : {s : ℕ} → Common F p r k s → s ≡ X → Disagree F p r k
       go (zeros f) e = absurd (omega arith)
       go (ones w f) e = absurd (omega arith)
@@ -152,8 +167,45 @@ module _ (L h : ℕ) (F : ℕ → ℕ → ℕ → ℕ) (c1 : C1 L h F) where
       back d (ones w f) = absurd (agree f d)
       back d (mixed w v) = refl
 
+module _ (L h : ℕ) (F : ℕ → ℕ → ℕ → ℕ) (c1 : C1 L h F) where
+  pub common-unknown : (p r : List ℕ) → length p ≡ L → length r ≡ h → (k : ℕ) → k < h → (common F p r k ≡ X) ↔ Disagree F p r k
+  common-unknown p r lp lr k l = binary-unknown F p r k (λ a q ca cq. c1 a q k (rw lp at (ca .below)) (rw lr at (cq .below)) l)
+
   -- so it is at a fixed point
   pub fixed-unknown : (p r : List ℕ) → length p ≡ L → H F h p r ≡ r → (k : ℕ) → k < h → (at r k ≡ X) ↔ Disagree F p r k
   fixed-unknown p r lp e k l =
       let i : common F p r k ≡ at r k = sym (at-H F h p r k l) ∙ ap (λ v. at v k) e in
       subst (λ s. (s ≡ X) ↔ Disagree F p r k) i (common-unknown p r lp (sym (ap length e) ∙ length-H F h p r) k l)
+
+-- ---- the common value of one function
+
+-- f as a network: its key state is the number, and its one key node is 0
+abbrev alone : (ℕ → ℕ) → ℕ → ℕ → ℕ → ℕ
+alone f a w k = f w
+
+common-alone : (f : ℕ → ℕ) (r : List ℕ) → common (alone f) [] r 0 ≡ commonOf f r
+unfolding common commonOf every
+common-alone f r = refl
+
+-- only the values at completions matter
+pub common-of-ext : (f g : ℕ → ℕ) (r : List ℕ) → ((w : ℕ) → Completes r w → f w ≡ g w) → commonOf f r ≡ commonOf g r
+common-of-ext f g r e = sym (common-alone f r)
+    ∙ common-same (alone f) [] r 0 (alone g) [] r 0 (λ a w ca cw. (a, w, ca, cw, sym (e w cw))) (λ a w ca cw. (a, w, ca, cw, e w cw))
+    ∙ common-alone g r
+
+-- where the completions of p and r give what f gives at the completions of s, F has f's common value
+pub common-of-same : (F : ℕ → ℕ → ℕ → ℕ) (p r : List ℕ) (k : ℕ) (f : ℕ → ℕ) (s : List ℕ)
+    → ((a q : ℕ) → Completes p a → Completes r q → (w : ℕ) × Completes s w × (f w ≡ F a q k))
+    → ((w : ℕ) → Completes s w → Gives F p r k (f w))
+    → common F p r k ≡ commonOf f s
+common-of-same F p r k f s there back = common-same F p r k (alone f) [] s 0
+    (λ a q ca cq. let w = there a q ca cq in (0, w .0, nil, w .1, w .2)) (λ _ w _ cw. back w cw)
+    ∙ common-alone f s
+
+-- where f is 0 or 1, its common value is X exactly if it differs at two completions
+pub common-of-unknown : (f : ℕ → ℕ) (r : List ℕ) → ((w : ℕ) → w < 2 ^ length r → (f w ≡ 0) ⊎ (f w ≡ 1)) → (commonOf f r ≡ X) ↔ DisagreeAt f r
+common-of-unknown f r binary =
+    Iff·trans (subst (λ s. (s ≡ X) ↔ Disagree (alone f) [] r 0) (common-alone f r) (binary-unknown (alone f) [] r 0 (λ _ w _ c. binary w (c .below)))) (
+      λ d. record { w₁ = d .q₁; w₂ = d .q₂; covered₁ = d .key₁; covered₂ = d .key₂; differ = d .differ },
+      λ d. record { a₁ = 0; q₁ = d .w₁; a₂ = 0; q₂ = d .w₂; input₁ = nil; key₁ = d .covered₁; input₂ = nil; key₂ = d .covered₂; differ = d .differ },
+    )

@@ -3,6 +3,7 @@ pub mod ListLaws
 pub mod BitLaws
 pub mod SignalLaws
 pub mod ExcitationLaws
+pub mod TruthTableLaws
 pub mod PassLaws
 pub mod Passes
 pub mod RunLaws

@@ -1,20 +1,20 @@
 -- Laws of signals, completions and the enumerator over them. Assumes nothing.
 use Prim.Native.Nat.{ℕ, zero, suc, _+_, _*_, _/_, _%_, _^_, _≤_, _<_}
-use mathlib.Core.Path.{_≡_, refl, sym, ap, ap₂, _∙_}
-use mathlib.Core.Bool.{Bool, true, false, true≢false, false≢true}
-use mathlib.Core.Logic.{_⊎_, inl, inr, ⊎-elim, _↔_, _≢_}
-use mathlib.Core.List.{List, [], _∷_}
+use mathlib.Core.Path.{_≡_, refl, sym, ap₂, _∙_}
+use mathlib.Core.Bool.{Bool, true, false, _&&_, true≢false}
+use mathlib.Core.Logic.{inl, inr, ⊎-elim, _↔_}
+use mathlib.Core.List.{List, [], _∷_, _++_}
 use native.Mathlib.Omega.{arith}
-use native.Mathlib.Nat.{pow-zero, le-of-eq, suc-inj}
+use native.Mathlib.Nat.{pow-zero, pow-succ', one-mul, zero-add, le-of-eq, suc-inj}
 use lib.Dec.{eqb}
 use lib.ListN.{length}
-use borrow.Author.Tests.{eqb-true, eq-eqb}
-use Rattle.ternary.specs.Bits.{bit, digit}
+use borrow.Author.Tests.{eqb-true}
+use Rattle.ternary.specs.Bits.{bit, number, digit}
 use Rattle.ternary.specs.Signal.{X, Signal, Covers, Against, at, Completes, every}
 use Rattle.ternary.specs.Lists.{table}
-use Rattle.ternary.proofs.Tests.{and-left, and-right, and-false, by-test}
+use Rattle.ternary.proofs.Tests.{and-left, and-right, and-false, both, by-test, same-test}
 use Rattle.ternary.proofs.ListLaws.{length-table, getD-table}
-use Rattle.ternary.proofs.BitLaws.{bit-lt, bit-ext}
+use Rattle.ternary.proofs.BitLaws.{bit-lt, bit-ext, number-lt, bit-number}
 
 -- ---- covering
 
@@ -29,6 +29,15 @@ unfolding Covers
 covers-trans zero b c p q = rw p at q
 covers-trans (suc zero) b c p q = rw p at q
 covers-trans (suc (suc a)) b c p q = tt
+
+-- signals that cover one another are equal
+pub covers-antisym : (a b : ℕ) → Signal a → Signal b → Covers a b → Covers b a → a ≡ b
+unfolding Covers
+covers-antisym a b (inl e) sb p q = let i : b ≡ 0 = rw e at p in cc
+covers-antisym a b (inr (inl e)) sb p q = let i : b ≡ 1 = rw e at p in cc
+covers-antisym a b (inr (inr e)) (inl f) p q = let i : a ≡ 0 = rw f at q in cc
+covers-antisym a b (inr (inr e)) (inr (inl f)) p q = let i : a ≡ 1 = rw f at q in omega arith
+covers-antisym a b (inr (inr e)) (inr (inr f)) p q = cc
 
 pub covered-not-against : (s v : ℕ) → Covers s v → ¬ (Against s v)
 unfolding Covers
@@ -76,13 +85,52 @@ cons-odd s r n p c = cons s 1 r n (omega arith) p c
 pub nil : Completes [] 0
 nil = record { below = omega (arith, pow-zero 2); covered = λ k l. absurd (omega arith) }
 
+-- what a signal allows of a value: the value itself if it is covered
+fit : ℕ → ℕ → ℕ
+fit zero v = 0
+fit (suc zero) v = 1
+fit (suc (suc s)) v = v
+
+fit-lt : (s v : ℕ) → v < 2 → fit s v < 2
+unfolding fit
+fit-lt zero v l = omega arith
+fit-lt (suc zero) v l = omega arith
+fit-lt (suc (suc s)) v l = l
+
+fit-covered : (s v : ℕ) → Covers s (fit s v)
+unfolding fit Covers
+fit-covered zero v = refl
+fit-covered (suc zero) v = refl
+fit-covered (suc (suc s)) v = tt
+
+fit-same : (s v : ℕ) → Covers s v → fit s v ≡ v
+unfolding fit Covers
+fit-same zero v c = sym c
+fit-same (suc zero) v c = sym c
+fit-same (suc (suc s)) v c = refl
+
+-- the completion of r that has n's bit wherever r covers it
+pub nearest : List ℕ → ℕ → ℕ
+nearest r n = number (length r) (λ k. fit (at r k) (bit n k))
+
+module _ (r : List ℕ) (n : ℕ) where
+  nearest-bit : (k : ℕ) → k < length r → bit (nearest r n) k ≡ fit (at r k) (bit n k)
+  unfolding nearest
+  nearest-bit = bit-number (length r) _ (λ k _. fit-lt (at r k) (bit n k) (bit-lt n k))
+
+  pub nearest-completes : Completes r (nearest r n)
+  unfolding nearest
+  nearest-completes = record {
+    below = number-lt (length r) _ (λ k _. fit-lt (at r k) (bit n k) (bit-lt n k));
+    covered = λ k l. rw (nearest-bit k l) (fit-covered (at r k) (bit n k));
+  }
+
+  pub nearest-same : (k : ℕ) → k < length r → Covers (at r k) (bit n k) → bit (nearest r n) k ≡ bit n k
+  nearest-same k l c = nearest-bit k l ∙ fit-same (at r k) (bit n k) c
+
 -- every vector has a completion
 pub completion : (r : List ℕ) → (n : ℕ) × Completes r n
-unfolding Covers
-completion [] = (0, nil)
-completion (zero ∷ r) = (2 * completion r .0, cons-even 0 r (completion r .0) refl (completion r .1))
-completion (suc zero ∷ r) = (2 * completion r .0 + 1, cons-odd 1 r (completion r .0) refl (completion r .1))
-completion (suc (suc s) ∷ r) = (2 * completion r .0, cons-even (suc (suc s)) r (completion r .0) tt (completion r .1))
+completion r = (nearest r 0, nearest-completes r 0)
 
 -- ---- the enumerator goes through the completions, and through nothing else
 
@@ -135,6 +183,29 @@ every-iff r P = (
   λ f. by-test (every r P) (λ e. e)
       (λ e. let w = every-false r P e in absurd (true≢false (sym (f (w .0) (w .1)) ∙ w .2))),
 )
+
+pub every-and : (r : List ℕ) (P Q : ℕ → Bool) → every r (λ n. P n && Q n) ≡ (every r P && every r Q)
+every-and r P Q = same-test (every r (λ n. P n && Q n)) (every r P && every r Q)
+    (λ e. both
+    (every-iff r P .1 (λ n c. and-left (P n) (Q n) (every-true r (λ n. P n && Q n) e n c)))
+    (every-iff r Q .1 (λ n c. and-right (P n) (Q n) (every-true r (λ n. P n && Q n) e n c))))
+    (λ e. every-iff r (λ n. P n && Q n) .1 (λ n c. both
+    (every-true r P (and-left (every r P) (every r Q) e) n c)
+    (every-true r Q (and-right (every r P) (every r Q) e) n c)))
+
+even-place : (l n m : ℕ) → 2 * (n + 2 ^ l * m) ≡ 2 * n + 2 ^ suc l * m
+even-place l n m = rw (pow-succ' 2 l) (omega arith)
+
+odd-place : (w n m : ℕ) → 2 * n + w * m + 1 ≡ 2 * n + 1 + w * m
+odd-place w n m = omega arith
+
+-- where s stands behind r, its places weigh 2 ^ length r times as much
+pub every-append : (r s : List ℕ) (P : ℕ → Bool) → every (r ++ s) P ≡ every s (λ m. every r (λ n. P (n + 2 ^ length r * m)))
+unfolding every
+every-append [] s P = simp (pow-zero, one-mul, zero-add)
+every-append (zero ∷ r) s P = simp (every-append r s, even-place)
+every-append (suc zero ∷ r) s P = simp (every-append r s, even-place, odd-place)
+every-append (suc (suc x) ∷ r) s P = simp (every-append r s, even-place, odd-place, every-and)
 
 -- ---- vectors
 

@@ -45,3 +45,11 @@ pub record Disagree (F : ℕ → ℕ → ℕ → ℕ) (p r : List ℕ) (k : ℕ)
   pub input₂ : Completes p a₂
   pub key₂ : Completes r q₂
   pub differ : F a₁ q₁ k ≢ F a₂ q₂ k
+
+-- two completions of r at which f differs
+pub record DisagreeAt (f : ℕ → ℕ) (r : List ℕ) : Type 0 where
+  pub w₁ : ℕ
+  pub w₂ : ℕ
+  pub covered₁ : Completes r w₁
+  pub covered₂ : Completes r w₂
+  pub differ : f w₁ ≢ f w₂
