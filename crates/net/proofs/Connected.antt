@@ -13,7 +13,7 @@ use Rattle.net.specs.Graph.{edgeAt, isInput, isStorage}
 use Rattle.net.specs.declared.Kind.{Kind}
 use Rattle.net.specs.declared.Kind.the-variants.{Any, NType, PType}
 use Rattle.net.specs.State.{admits, condition, usable, conditions, inputOf}
-use Rattle.net.specs.Walks.{Link, Walk, edge, via, Connection, Connects}
+use Rattle.net.specs.Walks.{Link, Walk, edge, via, Connects, ExcitedTo0, ExcitedTo1, Floating}
 use Rattle.net.specs.Excitation.{connectedUnder, connected, excitationOf, excitation}
 use Rattle.ternary.proofs.Tests.{and-left, and-right, fails, not-both, cond-by}
 use borrow.Author.Tests.{not-true}
@@ -94,39 +94,29 @@ module _ (N : Net) (a q : ℕ) where
     pub not-connected : (k : Kind) (b : ℕ) → (connected N a q k y b ≡ false) ↔ (¬ Connects N a q k y b)
     not-connected k b = (λ e r. not-both _ (connected-iff k b .1 r) e, λ f. fails _ (λ e. f (connected-iff k b .0 e)))
 
-    -- the cases of document 01
-    abbrev pub Is0 : Type 0
-    Is0 = Connects N a q NType y 0 × (¬ Connects N a q Any y 1)
-
-    abbrev pub Is1 : Type 0
-    Is1 = Connects N a q PType y 1 × (¬ Connects N a q Any y 0)
-
-    abbrev pub Is3 : Type 0
-    Is3 = ¬ ((x : ℕ) × (isInput N x ≡ true) × Connection N a q Any y x)
-
     weaker : (k : Kind) (b : ℕ) → connected N a q k y b ≡ true → connected N a q Any y b ≡ true
     weaker k b e = connected-iff Any b .1 (connects-any k y b (connected-iff k b .0 e))
 
-    pub excitation-0 : (excitation N a q y ≡ 0) ↔ Is0
+    pub excitation-0 : (excitation N a q y ≡ 0) ↔ ExcitedTo0 N a q y
     unfolding excitation connected
     excitation-0 = Iff·trans (of0 _ _ _ _) (Iff·and (connected-iff NType 0) (not-connected Any 1))
 
-    pub excitation-1 : (excitation N a q y ≡ 1) ↔ Is1
+    pub excitation-1 : (excitation N a q y ≡ 1) ↔ ExcitedTo1 N a q y
     unfolding excitation connected
     excitation-1 = Iff·trans (of1 _ _ _ _ (weaker NType 0)) (Iff·and (connected-iff PType 1) (not-connected Any 0))
 
-    pub excitation-3 : (excitation N a q y ≡ 3) ↔ Is3
+    pub excitation-3 : (excitation N a q y ≡ 3) ↔ Floating N a q y
     unfolding excitation connected
     excitation-3 = Iff·trans (of3 _ _ _ _ (weaker NType 0) (weaker PType 1)) (Iff·trans (Iff·and (not-connected Any 0) (not-connected Any 1)) (join, split))
       where
-        join : (¬ Connects N a q Any y 0) × (¬ Connects N a q Any y 1) → Is3
+        join : (¬ Connects N a q Any y 0) × (¬ Connects N a q Any y 1) → Floating N a q y
         join (f, g) (x, i, p) = ⊎-elim (λ e. f (x, e, p)) (λ e. g (x, e, p)) (input-cases N a q x i)
 
-        split : Is3 → (¬ Connects N a q Any y 0) × (¬ Connects N a q Any y 1)
+        split : Floating N a q y → (¬ Connects N a q Any y 0) × (¬ Connects N a q Any y 1)
         split f = (λ (x, i, p). f (x, input-of N a q 0 x i, p), λ (x, i, p). f (x, input-of N a q 1 x i, p))
 
     -- otherwise
-    pub excitation-2 : (excitation N a q y ≡ 2) ↔ ((¬ Is0) × (¬ Is1) × (¬ Is3))
+    pub excitation-2 : (excitation N a q y ≡ 2) ↔ ((¬ ExcitedTo0 N a q y) × (¬ ExcitedTo1 N a q y) × (¬ Floating N a q y))
     unfolding excitation connected
     excitation-2 = (
       λ e. (λ h. omega (arith, excitation-0 .1 h), λ h. omega (arith, excitation-1 .1 h), λ h. omega (arith, excitation-3 .1 h)),

@@ -5,9 +5,9 @@ use mathlib.Core.Path.{_≡_}
 use Prim.Native.Nat.{ℕ, _<_}
 use Rattle.net.specs.declared.Edge.{Edge}
 use Rattle.net.specs.declared.Net.{Net}
-use Rattle.net.specs.Graph.{edgeAt, isStorage}
+use Rattle.net.specs.Graph.{edgeAt, isInput, isStorage}
 use Rattle.net.specs.declared.Kind.{Kind}
-use Rattle.net.specs.declared.Kind.the-variants.{Any}
+use Rattle.net.specs.declared.Kind.the-variants.{Any, NType, PType}
 use Rattle.net.specs.State.{usable, inputOf}
 
 -- e joins u and v, in either order
@@ -33,7 +33,21 @@ Connection N a q k u v = Walk N (usable N a q k) u v
 abbrev pub Connects : Net → ℕ → ℕ → Kind → ℕ → ℕ → Type 0
 Connects N a q k y b = (x : ℕ) × (inputOf N a q b x ≡ true) × Connection N a q k y x
 
--- a connection between input vertices of values 0 and 1
+-- ---- excitation in document 01's words; otherwise it is 2 (`excitation-0` to `excitation-3` tie them to the value)
+
+-- 0: an n-connection to an input vertex of value 0 and no connection to one of value 1
+abbrev pub ExcitedTo0 : Net → ℕ → ℕ → ℕ → Type 0
+ExcitedTo0 N a q y = Connects N a q NType y 0 × (¬ Connects N a q Any y 1)
+
+-- 1: a p-connection to an input vertex of value 1 and no connection to one of value 0
+abbrev pub ExcitedTo1 : Net → ℕ → ℕ → ℕ → Type 0
+ExcitedTo1 N a q y = Connects N a q PType y 1 × (¬ Connects N a q Any y 0)
+
+-- 3: no connection to any input vertex
+abbrev pub Floating : Net → ℕ → ℕ → ℕ → Type 0
+Floating N a q y = ¬ ((x : ℕ) × (isInput N x ≡ true) × Connection N a q Any y x)
+
+-- a connection between input vertices of values 0 and 1; one edge can be a fight
 pub record Fight (N : Net) (a q : ℕ) : Type 0 where
   pub low : ℕ
   pub high : ℕ

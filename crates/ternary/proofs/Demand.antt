@@ -5,11 +5,10 @@ use mathlib.Core.List.{List}
 use native.Mathlib.Omega.{arith}
 use Rattle.ternary.specs.Bits.{bit}
 use Rattle.ternary.specs.Signal.{Against, at}
-use Rattle.ternary.specs.Passes.{settled, secondPass}
+use Rattle.ternary.specs.Passes.{settled, secondPass, iterate}
 use Rattle.ternary.specs.Run.{Run, Step, start, runAll}
 use Rattle.ternary.specs.Demand.{Premises, NeverAgainst}
 use Rattle.ternary.proofs.SignalLaws.{covered-not-against, above-completes}
-use Rattle.ternary.proofs.PassLaws.{iterate}
 use Rattle.ternary.proofs.Passes.{r₁, t, second-ends, second-below, second-length}
 use Rattle.ternary.proofs.Invariant.{run-inv}
 

@@ -11,14 +11,13 @@ use borrow.Author.Tests.{eqb-true}
 use Rattle.ternary.specs.Lists.{table, allBelow}
 use Rattle.ternary.specs.Bits.{bit, has, setOf}
 use Rattle.ternary.specs.Signal.{Covers, at, Completes}
-use Rattle.ternary.specs.Passes.{mix}
+use Rattle.ternary.specs.Passes.{mix, iterate}
 use Rattle.ternary.specs.Run.{Run, Step, start, isStable, switch, stables, close, accepted, refused, step, runAll}
 use Rattle.ternary.specs.Demand.{Premises}
 use Rattle.ternary.proofs.Tests.{by-test, or-true}
 use Rattle.ternary.proofs.ListLaws.{all-at}
 use Rattle.ternary.proofs.BitLaws.{has-setOf}
 use Rattle.ternary.proofs.SignalLaws.{covers-trans}
-use Rattle.ternary.proofs.PassLaws.{iterate}
 use Rattle.ternary.proofs.ExcitationLaws.{H-covers}
 use Rattle.ternary.proofs.Passes.{r₁, t, first-ends, start-completes, b-completes, second-descends, second-length}
 use Rattle.ternary.proofs.RunLaws.{Allowed, allowed, switch-lt, switch-bit}

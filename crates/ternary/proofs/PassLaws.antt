@@ -8,14 +8,9 @@ use native.Mathlib.Omega.{arith}
 use lib.ListN.{length}
 use native.Mathlib.Nat.{suc-inj, eq-or-lt-of-le}
 use Rattle.ternary.specs.Lists.{same}
-use Rattle.ternary.specs.Passes.{Pass, settleBy}
+use Rattle.ternary.specs.Passes.{Pass, settleBy, iterate}
 use Rattle.ternary.proofs.Tests.{by-test}
 use Rattle.ternary.proofs.ListLaws.{same-true, same-false}
-
--- the vector after n applications of f
-unfoldable pub iterate : (List ℕ → List ℕ) → ℕ → List ℕ → List ℕ
-iterate f zero r = r
-iterate f (suc n) r = f (iterate f n r)
 
 -- p is what the iteration of f from r has come to when it reached its first fixed point, or after n steps
 pub record Stopped (f : List ℕ → List ℕ) (n : ℕ) (r : List ℕ) (p : Pass) : Type 0 where

@@ -14,12 +14,12 @@ use Rattle.ternary.specs.Bits.{bit}
 use Rattle.ternary.specs.Lists.{table}
 use Rattle.ternary.specs.Signal.{X, Signal, Covers, at, Completes}
 use Rattle.ternary.specs.Excitation.{H, Disagree}
-use Rattle.ternary.specs.Passes.{mix, Pass, settleBy, firstPass, secondPass, settled}
+use Rattle.ternary.specs.Passes.{mix, settleBy, iterate, Ends, firstPass, secondPass, settled}
 use Rattle.ternary.specs.Demand.{Premises}
 use Rattle.ternary.proofs.BitLaws.{bit-lt}
 use Rattle.ternary.proofs.SignalLaws.{covers-binary, Above, above-refl, above-trans, above-completes, completes-bits, covers-refl, at-table, unknowns, unknowns-le, unknowns-above}
 use Rattle.ternary.proofs.ListLaws.{length-table}
-use Rattle.ternary.proofs.PassLaws.{iterate, stopped, fixed, settleBy-length}
+use Rattle.ternary.proofs.PassLaws.{stopped, fixed, settleBy-length}
 use Rattle.ternary.proofs.ExcitationLaws.{length-H, H-signal, H-covers, H-mono, fixed-unknown}
 use Rattle.ternary.proofs.Tests.{by-test}
 
@@ -63,13 +63,6 @@ above-bits u n h e c = record {
 }
 
 -- ---- passes that ascend or descend
-
--- a pass of at most n steps from r by f: its vector is a fixed point of f, and its steps are the least number of applications that reach one
-pub record Ends (f : List ℕ → List ℕ) (n : ℕ) (r : List ℕ) (p : Pass) : Type 0 where
-  pub isFixed : f (p .vector) ≡ p .vector
-  pub reached : p .vector ≡ iterate f (p .steps) r
-  pub least : (m : ℕ) → m < p .steps → f (iterate f m r) ≢ iterate f m r
-  pub bounded : p .steps ≤ n
 
 module _ (f : List ℕ → List ℕ) (h : ℕ) (r : List ℕ)
     (lengths : (m : ℕ) → length (iterate f m r) ≡ h) where

@@ -1,5 +1,7 @@
 -- The two passes of ternary settling, the report's algorithms A and B, with their step counts. Assumes nothing.
-use Prim.Native.Nat.{ℕ, zero, suc}
+use Prim.Native.Nat.{ℕ, zero, suc, _≤_, _<_}
+use mathlib.Core.Path.{_≡_}
+use mathlib.Core.Logic.{_≢_}
 use mathlib.Core.Bool.{Bool, true, false, cond}
 use mathlib.Core.List.{List}
 use lib.Dec.{eqb}
@@ -20,6 +22,23 @@ settleBy f (suc n) r = elim (same (f r) r) [
   | true ↦ record { vector = r; steps = 0 }
   | false ↦ let p = settleBy f n (f r) in record { vector = p .vector; steps = suc (p .steps) }
 ]
+
+-- ---- what a pass means: the first fixed point that applying f over and over reaches
+
+-- the vector after n applications of f
+unfoldable pub iterate : (List ℕ → List ℕ) → ℕ → List ℕ → List ℕ
+iterate f zero r = r
+iterate f (suc n) r = f (iterate f n r)
+
+-- pass p by f from r, of at most n steps: its vector is fixed, it is reached by as many applications as the pass has steps, and no fewer reach a
+-- fixed one
+pub record Ends (f : List ℕ → List ℕ) (n : ℕ) (r : List ℕ) (p : Pass) : Type 0 where
+  pub isFixed : f (p .vector) ≡ p .vector
+  pub reached : p .vector ≡ iterate f (p .steps) r
+  pub least : (m : ℕ) → m < p .steps → f (iterate f m r) ≢ iterate f m r
+  pub bounded : p .steps ≤ n
+
+-- ---- the two passes
 
 -- the vector p of the first pass: X where A and B differ
 unfoldable pub mix : ℕ → ℕ → ℕ → List ℕ
