@@ -1,0 +1,4 @@
+-- Laws of the sheet format.
+pub mod FieldLaws
+pub mod LineLaws
+pub mod RowLaws
