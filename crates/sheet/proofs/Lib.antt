@@ -2,3 +2,8 @@
 pub mod FieldLaws
 pub mod LineLaws
 pub mod RowLaws
+pub mod RuleLaws
+pub mod Places
+pub mod Validity
+pub mod WriteLaws
+pub mod LineInversion
