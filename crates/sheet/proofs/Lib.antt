@@ -7,3 +7,5 @@ pub mod Places
 pub mod Validity
 pub mod WriteLaws
 pub mod LineInversion
+pub mod BodyInversion
+pub mod ReadLaws

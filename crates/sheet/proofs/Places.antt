@@ -1,22 +1,23 @@
 -- Lists stored from place 0 of a zeroed array, and tests of every element of a list.
 use Prim.Native.Nat.{ℕ, zero, suc, _+_, _-_, _≤_, _<_}
 use native.Mathlib.Nat.{zero-add, suc-sub-suc, zero-sub, sub-zero, not-suc-le-zero, le-of-suc-le-suc}
-use mathlib.Core.Path.{_≡_, refl, _∙_}
+use native.Mathlib.Omega.{arith}
+use mathlib.Core.Path.{_≡_, refl, ap, _∙_}
 use mathlib.Core.Bool.{Bool, true}
 use mathlib.Core.List.{List, [], _∷_, _++_}
 use lib.ListN.{length, getD, take, drop, replicate, length-replicate, length-drop, take-append-drop}
-use lib.Seq.{sets, sets-eq, length-take-le, getD-take}
+use lib.Seq.{sets, sets-eq, length-take-le, getD-take, take-at, drop-at}
 use Rattle.ternary.proofs.Tests.{ands, both}
 use Rattle.sheet.specs.Valid.{allOf}
 
 module _ {A : Type 0} (z : A) where
-  pub drop-replicate : (k n : ℕ) → drop k (replicate n z) ≡ replicate (n - k) z
+  drop-replicate : (k n : ℕ) → drop k (replicate n z) ≡ replicate (n - k) z
   drop-replicate zero n = rw sub-zero
   drop-replicate (suc k) zero = rw zero-sub
   drop-replicate (suc k) (suc n) = rw suc-sub-suc (drop-replicate k n)
 
   -- stored from place 0: the list, and zeros after it
-  pub stored : (n : ℕ) (xs : List A) → length xs ≤ n → sets (replicate n z) 0 xs ≡ xs ++ replicate (n - length xs) z
+  stored : (n : ℕ) (xs : List A) → length xs ≤ n → sets (replicate n z) 0 xs ≡ xs ++ replicate (n - length xs) z
   stored n xs h =
       let fits : 0 + length xs ≤ length (replicate n z) = rw (zero-add, length-replicate) h in
       sets-eq xs (replicate n z) 0 fits ∙ rw (zero-add, drop-replicate)
@@ -27,6 +28,14 @@ module _ {A : Type 0} (z : A) where
       let size : length (take k l) ≡ k = length-take-le k l (rw len h) in
       let rest : drop k l ≡ replicate (n - k) z = zeros ∙ rw (length-drop, len) in
       stored n (take k l) (rw size h) ∙ rw (size, ← rest) (take-append-drop k l)
+
+-- the stored list taken out again, and what is left behind it
+module _ {A : Type 0} (z : A) (n k : ℕ) (xs : List A) (size : length xs ≡ k) (fits : k ≤ n) where
+  pub stored-taken : take k (sets (replicate n z) 0 xs) ≡ xs
+  stored-taken = ap (take k) (stored z n xs (omega arith)) ∙ take-at xs _ k size
+
+  pub stored-left : drop k (sets (replicate n z) 0 xs) ≡ replicate (n - length xs) z
+  stored-left = ap (drop k) (stored z n xs (omega arith)) ∙ drop-at xs _ k size
 
 module _ {A : Type 0} (p : A → Bool) where
   -- every element of a list that passes is z, if only z passes
