@@ -1,0 +1,11 @@
+-- Laws of the sheet format.
+pub mod FieldLaws
+pub mod LineLaws
+pub mod RowLaws
+pub mod RuleLaws
+pub mod Places
+pub mod Validity
+pub mod WriteLaws
+pub mod LineInversion
+pub mod BodyInversion
+pub mod ReadLaws

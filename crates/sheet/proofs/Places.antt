@@ -1,0 +1,60 @@
+-- Lists stored from place 0 of a zeroed array, and tests of every element of a list.
+use Prim.Native.Nat.{ℕ, zero, suc, _+_, _-_, _≤_, _<_}
+use native.Mathlib.Nat.{zero-add, suc-sub-suc, zero-sub, sub-zero, not-suc-le-zero, le-of-suc-le-suc}
+use native.Mathlib.Omega.{arith}
+use mathlib.Core.Path.{_≡_, refl, ap, _∙_}
+use mathlib.Core.Bool.{Bool, true}
+use mathlib.Core.List.{List, [], _∷_, _++_}
+use lib.ListN.{length, getD, take, drop, replicate, length-replicate, length-drop, take-append-drop}
+use lib.Seq.{sets, sets-eq, length-take-le, getD-take, take-at, drop-at}
+use Rattle.ternary.proofs.Tests.{ands, both}
+use Rattle.sheet.specs.Valid.{allOf}
+
+module _ {A : Type 0} (z : A) where
+  drop-replicate : (k n : ℕ) → drop k (replicate n z) ≡ replicate (n - k) z
+  drop-replicate zero n = rw sub-zero
+  drop-replicate (suc k) zero = rw zero-sub
+  drop-replicate (suc k) (suc n) = rw suc-sub-suc (drop-replicate k n)
+
+  -- stored from place 0: the list, and zeros after it
+  stored : (n : ℕ) (xs : List A) → length xs ≤ n → sets (replicate n z) 0 xs ≡ xs ++ replicate (n - length xs) z
+  stored n xs h =
+      let fits : 0 + length xs ≤ length (replicate n z) = rw (zero-add, length-replicate) h in
+      sets-eq xs (replicate n z) 0 fits ∙ rw (zero-add, drop-replicate)
+
+  -- an array with zeros after its first k elements is what storing those elements gives
+  pub restored : (n k : ℕ) (l : List A) → length l ≡ n → k ≤ n → drop k l ≡ replicate (length (drop k l)) z → sets (replicate n z) 0 (take k l) ≡ l
+  restored n k l len h zeros =
+      let size : length (take k l) ≡ k = length-take-le k l (rw len h) in
+      let rest : drop k l ≡ replicate (n - k) z = zeros ∙ rw (length-drop, len) in
+      stored n (take k l) (rw size h) ∙ rw (size, ← rest) (take-append-drop k l)
+
+-- the stored list taken out again, and what is left behind it
+module _ {A : Type 0} (z : A) (n k : ℕ) (xs : List A) (size : length xs ≡ k) (fits : k ≤ n) where
+  pub stored-taken : take k (sets (replicate n z) 0 xs) ≡ xs
+  stored-taken = ap (take k) (stored z n xs (omega arith)) ∙ take-at xs _ k size
+
+  pub stored-left : drop k (sets (replicate n z) 0 xs) ≡ replicate (n - length xs) z
+  stored-left = ap (drop k) (stored z n xs (omega arith)) ∙ drop-at xs _ k size
+
+module _ {A : Type 0} (p : A → Bool) where
+  -- every element of a list that passes is z, if only z passes
+  pub all-same : (z : A) → ((x : A) → p x ≡ true → x ≡ z) → (l : List A) → allOf p l ≡ true → l ≡ replicate (length l) z
+  unfolding allOf
+  all-same z only [] h = refl
+  all-same z only (x ∷ xs) h = rw (only x (search ands), ← (all-same z only xs (search ands)))
+
+  pub all-replicate : (z : A) → p z ≡ true → (n : ℕ) → allOf p (replicate n z) ≡ true
+  unfolding allOf
+  all-replicate z h zero = refl
+  all-replicate z h (suc n) = both h (all-replicate z h n)
+
+  all-getD : (l : List A) (d : A) (i : ℕ) → allOf p l ≡ true → i < length l → p (getD l i d) ≡ true
+  unfolding allOf
+  all-getD [] d i h l = absurd (not-suc-le-zero l)
+  all-getD (x ∷ xs) d zero h l = search ands
+  all-getD (x ∷ xs) d (suc i) h l = all-getD xs d i (search ands) (le-of-suc-le-suc l)
+
+  -- element i of the first k passes, if all of these do
+  pub all-taken : (k : ℕ) (l : List A) (d : A) (i : ℕ) → allOf p (take k l) ≡ true → k ≤ length l → i < k → p (getD l i d) ≡ true
+  all-taken k l d i h fits below = rw (← (getD-take k l i d below)) (all-getD (take k l) d i h (rw (length-take-le k l fits) below))

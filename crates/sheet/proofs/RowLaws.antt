@@ -1,0 +1,87 @@
+-- The first row whose condition holds: what is computed is what is declared, for any list of rows.
+use Prim.Native.Nat.{ℕ, _≤_}
+use native.Mathlib.Omega.{arith}
+use mathlib.Core.Path.{_≡_, refl, ap, subst}
+use mathlib.Core.Logic.{_↔_}
+use mathlib.Core.Bool.{Bool, true, _&&_, true≢false}
+use mathlib.Core.List.{List, [], _∷_}
+use mathlib.Core.Option.{Option, none, some}
+use lib.Dec.{leb}
+use borrow.Author.Tests.{leb-true}
+use Rattle.ternary.proofs.Tests.{ands}
+use Rattle.sheet.specs.declared.Answer.{Answer}
+use Rattle.sheet.specs.Rows.{answer, Row, firstRow, answered, First, NoRow}
+use Rattle.sheet.specs.Rows.First.{here, later}
+use Rattle.sheet.specs.Rows.NoRow.{end, next}
+
+-- ---- what `firstRow` answers
+
+-- the two answers, each with what it declares
+pub data RowsAnswer (rs : List Row) : Option Answer → Type 0 where
+  nothing : NoRow rs → RowsAnswer rs none
+  found : {n p : ℕ} → First rs n p → RowsAnswer rs (some (answer n p))
+
+pub rows-answer : (rs : List Row) → RowsAnswer rs (firstRow rs)
+unfolding firstRow
+rows-answer [] = nothing end
+rows-answer (r ∷ rs) = go (r .place) refl (firstRow rs) (rows-answer rs)
+  where
+    go : (o : Option ℕ) → r .place ≡ o → (a : Option Answer) → RowsAnswer rs a
+        → RowsAnswer (r ∷ rs) (elim o [ none ↦ a | some p ↦ some (answer (r .number) p) ])
+    go none h none (nothing f) = nothing (next h f)
+    go none h (some a) (found f) = found (later h f)
+    go (some p) h a f = found (here h)
+
+no-row : {rs : List Row} → NoRow rs → firstRow rs ≡ none
+unfolding firstRow
+no-row end = refl
+no-row (next h f) = rw h (no-row f)
+
+first-row : {rs : List Row} {n p : ℕ} → First rs n p → firstRow rs ≡ some (answer n p)
+unfolding firstRow
+first-row (here h) = rw h
+first-row (later h f) = rw h (first-row f)
+
+module _ (rs : List Row) where
+  pub first-none : (firstRow rs ≡ none) ↔ NoRow rs
+  first-none = (there (rows-answer rs), no-row)
+    where
+      there : {o : Option Answer} → RowsAnswer rs o → o ≡ none → NoRow rs
+      there (nothing f) e = f
+      there (found f) e = absurd (true≢false (cc))
+
+  pub first-some : (n p : ℕ) → (firstRow rs ≡ some (answer n p)) ↔ First rs n p
+  first-some n p = (there (rows-answer rs), first-row)
+    where
+      there : {o : Option Answer} → RowsAnswer rs o → o ≡ some (answer n p) → First rs n p
+      there (nothing f) e = absurd (true≢false (cc))
+      there (found {n = m} {p = q} f) e =
+          let is : answer m q ≡ answer n p = cc in
+          subst (λ (a : Answer). First rs (a .number) (a .place)) is f
+
+-- ---- what a call answers with: number 0 stands for no row, if no row has it
+
+-- every row's number is at least 1
+unfoldable pub positive : List Row → Bool
+positive [] = true
+positive (r ∷ rs) = leb 1 (r .number) && positive rs
+
+positive-first : {rs : List Row} {n p : ℕ} → positive rs ≡ true → First rs n p → 1 ≤ n
+unfolding positive
+positive-first t (here {r = r} h) = leb-true 1 (r .number) (search ands)
+positive-first t (later h f) = positive-first (search ands) f
+
+module _ (rs : List Row) where
+  pub answered-zero : positive rs ≡ true → ((answered (firstRow rs)) .number ≡ 0) ↔ NoRow rs
+  answered-zero t = (there (rows-answer rs), λ f. rw (first-none rs .1 f))
+    where
+      there : {o : Option Answer} → RowsAnswer rs o → (answered o) .number ≡ 0 → NoRow rs
+      there (nothing f) e = f
+      there (found f) e = absurd (omega (arith, positive-first t f))
+
+  pub answered-some : (n p : ℕ) → 1 ≤ n → (answered (firstRow rs) ≡ answer n p) ↔ First rs n p
+  answered-some n p l = (there (firstRow rs) refl, λ f. rw (first-some rs n p .1 f))
+    where
+      there : (o : Option Answer) → firstRow rs ≡ o → answered o ≡ answer n p → First rs n p
+      there none h e = absurd (omega (arith, ap (λ (a : Answer). a .number) e))
+      there (some a) h e = first-some rs n p .0 (rw e at h)
