@@ -1,7 +1,7 @@
 -- Demand 3 over the definitions that the contracts of settling and of a batch name.
-use Prim.Native.Nat.{ℕ, _+_, _*_, _≤_, _<_}
+use Prim.Native.Nat.{ℕ, suc, _+_, _-_, _*_, _≤_, _<_}
 use native.Mathlib.Omega.{arith}
-use native.Mathlib.Nat.{mul-le-mul-right}
+use native.Mathlib.Nat.{mul-le-mul-right, suc-mul}
 use mathlib.Core.Path.{_≡_, refl, sym, ap, _∙_, subst}
 use mathlib.Core.Bool.{true}
 use mathlib.Core.List.{List, [], _∷_, _++_}
@@ -94,6 +94,7 @@ module _ {sheet : List ℕ} {N : Net} {A B q : ℕ} (s : Settles sheet N A B q) 
   pub demand3-job : (jobs results answers : List ℕ) (n : ℕ) → n < jobCount jobs → jobOf (take lineWidth (drop (n * lineWidth) jobs)) ≡ Asked A B q
       → jobCount jobs * jobWidth N ≤ length results → jobCount jobs * answerWidth ≤ length answers
       → JobPromise N A B q n (batchOf N jobs results answers)
+  unfolding written
   demand3-job jobs results answers n h asked hr ha = subst (JobPromise N A B q n) (sym (batch-accepts N jobs results answers is-valid (s .c1) hr ha)) (record {
     answer = refl;
     answers = answers-at N js results answers n (omega (arith, count)) ∙ ap answerBytes settles;
@@ -115,8 +116,11 @@ module _ {sheet : List ℕ} {N : Net} {A B q : ℕ} (s : Settles sheet N A B q) 
       settles : settlementAt N js n results ≡ written N A B q (take (keyCount N) own) (drop (keyCount N) own)
       settles = rw (piece-at (jobCount jobs) jobs n h, asked) (job-accepts N A B q startable own)
 
+      room : (w : ℕ) → jobCount jobs * w ≤ length results → w ≤ length results - n * w
+      room w fits = omega (arith, fits, mul-le-mul-right w h, suc-mul n w)
+
       own-size : length own ≡ jobWidth N
-      own-size = length-take-le (jobWidth N) (drop (n * jobWidth N) results) ?
+      own-size = length-take-le (jobWidth N) (drop (n * jobWidth N) results) (rw length-drop (room (jobWidth N) hr))
 
       bytes : take (jobWidth N) (drop (n * jobWidth N) written-results) ≡ vectorsOf (written N A B q (take (keyCount N) own) (drop (keyCount N) own))
       bytes = results-at N js results answers n (omega (arith, count)) (rw count hr) ∙ ap vectorsOf settles
