@@ -21,8 +21,9 @@ use Rattle.sheet.specs.declared.JobLine.the-variants.{Asked, Refused}
 use Rattle.sheet.specs.Rows.{answer, firstRow}
 use Rattle.sheet.specs.Valid.{valid}
 use Rattle.sheet.specs.Job.{jobOf}
+use Rattle.sheet.proofs.RowLaws.{by-rows-none, by-rows-some}
 use Rattle.settling.specs.Settle.{Settlement, written, settleUnder}
-use Rattle.settling.specs.Batch.{jobCount, pieces, jobWidth, answerWidth, jobRows, jobSettlement, runJobs, batchRows, batchOf}
+use Rattle.settling.specs.Batch.{jobCount, pieces, jobWidth, answerWidth, jobRows, jobSettlement, runJobs, Batch, batchRows, batchOf}
 use Rattle.settling.proofs.SettleLaws.{Startable, inputs-pass, start-passes, rest-passes, settle-none, settle-some, length-written-r, length-written-t}
 
 -- ---- pieces of one width in a row
@@ -171,7 +172,8 @@ pub batch-accepts : (N : Net) (jobs results answers : List ℕ) → valid N ≡ 
     → jobCount jobs * jobWidth N ≤ length results → jobCount jobs * answerWidth ≤ length answers
     → batchOf N jobs results answers ≡ record { answer = answer 0 0; buffers = runJobs N (pieces (jobCount jobs) jobs) results answers }
 unfolding batchOf
-batch-accepts N jobs results answers v c hr ha = rw (batch-rows-pass N (jobCount jobs) results answers v c hr ha, batchOf)
+batch-accepts N jobs results answers v c hr ha =
+    by-rows-none (batchRows N (jobCount jobs) results answers) _ _ (batch-rows-pass N (jobCount jobs) results answers v c hr ha)
 
 -- a batch refused as a whole changes no byte
 pub batch-refused : (N : Net) (jobs results answers : List ℕ) → batchOf N jobs results answers .answer .number ≢ 0
@@ -181,5 +183,5 @@ batch-refused N jobs results answers ne = go (firstRow (batchRows N (jobCount jo
   where
     go : (o : Option Answer) → firstRow (batchRows N (jobCount jobs) results answers) ≡ o
         → batchOf N jobs results answers .buffers ≡ record { results = results; answers = answers }
-    go none f = absurd (ne (rw (f, batchOf)))
-    go (some a) f = rw (f, batchOf)
+    go none f = absurd (ne (ap (λ (b : Batch). b .answer .number) (by-rows-none (batchRows N (jobCount jobs) results answers) _ _ f)))
+    go (some a) f = ap (λ (b : Batch). b .buffers) (by-rows-some (batchRows N (jobCount jobs) results answers) _ _ a f)

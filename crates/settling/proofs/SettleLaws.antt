@@ -19,6 +19,7 @@ use Rattle.net.proofs.WellFormed.{place-c1-none, stable-iff}
 use Rattle.sheet.specs.declared.Answer.{Answer}
 use Rattle.sheet.specs.Rows.{Row, firstRow}
 use Rattle.sheet.specs.Valid.{valid}
+use Rattle.sheet.proofs.RowLaws.{by-rows-none, by-rows-some}
 use Rattle.settling.specs.Settle.{Settlement, unsettled, written, settleUnder, settleRows, settleOf}
 
 -- what a job may be settled from: both inputs are input states, and the start is a key state that is stable under the old
@@ -30,11 +31,11 @@ pub record Startable (N : Net) (A B q : ℕ) : Type 0 where
 module _ (N : Net) (A B q : ℕ) where
   pub settle-none : (rows : List Row) (R T : List ℕ) → firstRow rows ≡ none → settleUnder rows N A B q R T ≡ written N A B q R T
   unfolding settleUnder
-  settle-none rows R T e = rw (e, settleUnder)
+  settle-none rows R T e = by-rows-none rows _ _ e
 
   pub settle-some : (rows : List Row) (R T : List ℕ) (a : Answer) → firstRow rows ≡ some a → settleUnder rows N A B q R T ≡ unsettled a R T
   unfolding settleUnder
-  settle-some rows R T a e = rw (e, settleUnder)
+  settle-some rows R T a e = by-rows-some rows _ _ a e
 
   module _ (s : Startable N A B q) where
     pub inputs-pass : (isInputState N A && isInputState N B) ≡ true

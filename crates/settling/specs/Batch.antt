@@ -2,7 +2,6 @@
 use Prim.Native.Nat.{ℕ, zero, suc, _+_, _-_, _*_, _/_}
 use mathlib.Core.Bool.{not, _&&_, _||_}
 use mathlib.Core.List.{List, [], _∷_, _++_}
-use mathlib.Core.Option.{none, some}
 use lib.Dec.{ltb}
 use lib.ListN.{length, take, drop}
 use Rattle.net.specs.declared.Net.{Net}
@@ -13,7 +12,7 @@ use Rattle.sheet.specs.Limits.{lineWidth}
 use Rattle.sheet.specs.declared.Answer.{Answer}
 use Rattle.sheet.specs.declared.JobLine.{JobLine}
 use Rattle.sheet.specs.declared.JobLine.the-variants.{Asked, Refused}
-use Rattle.sheet.specs.Rows.{Row, row, when, answer, firstRow}
+use Rattle.sheet.specs.Rows.{Row, row, when, answer, byRows}
 use Rattle.sheet.specs.Valid.{valid}
 use Rattle.sheet.specs.Job.{jobOf, jobNumber}
 use Rattle.settling.specs.Settle.{Settlement, unsettled, settleUnder}
@@ -84,7 +83,6 @@ batchRows N count results answers =
 unfoldable pub batchOf : Net → List ℕ → List ℕ → List ℕ → Batch
 batchOf N jobs results answers =
     let count = jobCount jobs in
-    elim (firstRow (batchRows N count results answers)) [
-      | none ↦ record { answer = answer 0 0; buffers = runJobs N (pieces count jobs) results answers }
-      | some a ↦ record { answer = a; buffers = record { results = results; answers = answers } }
-    ]
+    byRows (batchRows N count results answers)
+    (record { answer = answer 0 0; buffers = runJobs N (pieces count jobs) results answers })
+    (λ a. record { answer = a; buffers = record { results = results; answers = answers } })

@@ -2,7 +2,6 @@
 use Prim.Native.Nat.{ℕ}
 use mathlib.Core.Bool.{not, _&&_, _||_}
 use mathlib.Core.List.{List, [], _∷_, _++_}
-use mathlib.Core.Option.{none, some}
 use lib.Dec.{ltb}
 use lib.ListN.{length, drop}
 use Rattle.net.specs.declared.Net.{Net}
@@ -11,7 +10,7 @@ use Rattle.net.specs.Network.{isInputState, isKeyState, stable}
 use Rattle.net.specs.WellFormed.{placeC1}
 use Rattle.net.specs.Ternary.{settled}
 use Rattle.sheet.specs.declared.Answer.{Answer}
-use Rattle.sheet.specs.Rows.{Row, row, when, firstRow}
+use Rattle.sheet.specs.Rows.{Row, row, when, byRows}
 use Rattle.sheet.specs.Valid.{valid}
 use Rattle.settling.specs.declared.Settling.{Settling}
 
@@ -40,7 +39,7 @@ written N A B q R T =
 
 -- by the rows given: the first that holds refuses, and where none holds the passes are written
 unfoldable pub settleUnder : List Row → Net → ℕ → ℕ → ℕ → List ℕ → List ℕ → Settlement
-settleUnder rows N A B q R T = elim (firstRow rows) [ none ↦ written N A B q R T | some a ↦ unsettled a R T ]
+settleUnder rows N A B q R T = byRows rows (written N A B q R T) (λ a. unsettled a R T)
 
 -- record; C1 broken; A or B no input state; q no key state; a buffer shorter than h; start not stable under A
 unfoldable pub settleRows : Net → ℕ → ℕ → ℕ → List ℕ → List ℕ → List Row

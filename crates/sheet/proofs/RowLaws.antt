@@ -1,16 +1,16 @@
 -- The first row whose condition holds: what is computed is what is declared, for any list of rows.
 use Prim.Native.Nat.{ℕ, _≤_}
 use native.Mathlib.Omega.{arith}
-use mathlib.Core.Path.{_≡_, refl, ap, subst}
+use mathlib.Core.Path.{_≡_, refl, sym, ap, subst}
 use mathlib.Core.Logic.{_↔_}
-use mathlib.Core.Bool.{Bool, true, _&&_, true≢false}
+use mathlib.Core.Bool.{Bool, true, false, _&&_, true≢false}
 use mathlib.Core.List.{List, [], _∷_}
 use mathlib.Core.Option.{Option, none, some}
 use lib.Dec.{leb}
 use borrow.Author.Tests.{leb-true}
 use Rattle.ternary.proofs.Tests.{ands}
 use Rattle.sheet.specs.declared.Answer.{Answer}
-use Rattle.sheet.specs.Rows.{answer, Row, firstRow, answered, First, NoRow}
+use Rattle.sheet.specs.Rows.{answer, Row, when, firstRow, byRows, answered, First, NoRow}
 use Rattle.sheet.specs.Rows.First.{here, later}
 use Rattle.sheet.specs.Rows.NoRow.{end, next}
 
@@ -59,6 +59,17 @@ module _ (rs : List Row) where
           let is : answer m q ≡ answer n p = cc in
           subst (λ (a : Answer). First rs (a .number) (a .place)) is f
 
+-- ---- what a call gives by its rows
+
+module _ {A : Type 0} (rs : List Row) (x : A) (refuse : Answer → A) where
+  pub by-rows-none : firstRow rs ≡ none → byRows rs x refuse ≡ x
+  unfolding byRows
+  by-rows-none e = rw (e, byRows)
+
+  pub by-rows-some : (a : Answer) → firstRow rs ≡ some a → byRows rs x refuse ≡ refuse a
+  unfolding byRows
+  by-rows-some a e = rw (e, byRows)
+
 -- ---- what a call answers with: number 0 stands for no row, if no row has it
 
 -- every row's number is at least 1
@@ -85,3 +96,13 @@ module _ (rs : List Row) where
       there : (o : Option Answer) → firstRow rs ≡ o → answered o ≡ answer n p → First rs n p
       there none h e = absurd (omega (arith, ap (λ (a : Answer). a .number) e))
       there (some a) h e = first-some rs n p .0 (rw e at h)
+
+-- ---- a row with place 0, by its condition
+
+pub when-none : (b : Bool) → (when b ≡ none) ↔ (b ≡ false)
+when-none true = (λ e. absurd (true≢false (cc)), λ e. absurd (true≢false e))
+when-none false = (λ _. refl, λ _. refl)
+
+pub when-some : (b : Bool) (p : ℕ) → (when b ≡ some p) ↔ ((b ≡ true) × (p ≡ 0))
+when-some true p = (λ e. (refl, cc), λ h. rw (h .1))
+when-some false p = (λ e. absurd (true≢false (cc)), λ h. absurd (true≢false (sym (h .0))))

@@ -26,6 +26,10 @@ unfoldable pub firstRow : List Row → Option Answer
 firstRow [] = none
 firstRow (r ∷ rs) = elim (r .place) [ none ↦ firstRow rs | some p ↦ some (answer (r .number) p) ]
 
+-- what a call gives by its rows: x where no row's condition holds, else a refusal with the first one's answer
+unfoldable pub byRows : {A : Type 0} → List Row → A → (Answer → A) → A
+byRows rows x refuse = elim (firstRow rows) [ none ↦ x | some a ↦ refuse a ]
+
 -- answer 0 where no row's condition holds
 abbrev pub answered : Option Answer → Answer
 answered none = answer 0 0

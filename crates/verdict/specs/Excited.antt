@@ -2,12 +2,11 @@
 use Prim.Native.Nat.{ℕ}
 use mathlib.Core.Bool.{not}
 use mathlib.Core.List.{List, [], _∷_}
-use mathlib.Core.Option.{none, some}
 use Rattle.net.specs.declared.Net.{Net}
 use Rattle.net.specs.Graph.{isStorage}
 use Rattle.net.specs.Excitation.{excitation}
 use Rattle.net.specs.Network.{isInputState, isKeyState}
-use Rattle.sheet.specs.Rows.{Row, row, when, firstRow}
+use Rattle.sheet.specs.Rows.{Row, row, when, byRows}
 use Rattle.sheet.specs.Valid.{valid}
 use Rattle.verdict.specs.declared.Excited.{Excited}
 use Rattle.verdict.specs.declared.Excited.the-variants.{Value, Refused}
@@ -22,7 +21,7 @@ excitationRows N a q y =
     ∷ []
 
 unfoldable pub excitedOf : Net → ℕ → ℕ → ℕ → Excited
-excitedOf N a q y = elim (firstRow (excitationRows N a q y)) [ none ↦ Value (excitation N a q y) | some r ↦ Refused (r .number) ]
+excitedOf N a q y = byRows (excitationRows N a q y) (Value (excitation N a q y)) (λ r. Refused (r .number))
 
 -- the number of an answer; its place is always 0
 abbrev pub excitedNumber : Excited → ℕ

@@ -1,0 +1,2 @@
+pub mod ExcitedLaws
+pub mod VerdictLaws
