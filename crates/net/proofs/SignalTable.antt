@@ -23,11 +23,10 @@ use Rattle.net.specs.Network.{Clean}
 use Rattle.net.specs.WellFormed.{C1}
 use Rattle.ternary.proofs.Tests.{cond-by, both}
 use Rattle.ternary.proofs.ListLaws.{any-of, At, at-place, place-at, length-list}
-use Rattle.ternary.proofs.BitLaws.{bit-lt, number-lt, bit-number}
+use Rattle.ternary.proofs.BitLaws.{binary-iff, bit-lt, number-lt, bit-number}
 use Rattle.net.proofs.Values.{value-lt, decode-by}
 use Rattle.net.proofs.Keys.{key-at, index-at, key-storage}
 use Rattle.net.proofs.Components.{is-signal-iff, signal-range}
-use Rattle.net.proofs.WellFormed.{binary-iff}
 use Rattle.net.proofs.Local.{excitation-local}
 
 module _ (N : Net) (y : ℕ) where

@@ -12,6 +12,7 @@ use Rattle.ternary.specs.Excitation.{commonOf, common, H}
 use Rattle.ternary.specs.TruthTable.{signalOf, grow, ternaryIndex}
 use Rattle.ternary.specs.Passes as passes
 use Rattle.ternary.specs.Demand.{Premises}
+use Rattle.ternary.proofs.BitLaws.{binary-iff}
 use Rattle.ternary.proofs.ListLaws.{length-table}
 use Rattle.ternary.proofs.SignalLaws.{at-table, nearest, nearest-completes, nearest-same}
 use Rattle.ternary.proofs.ExcitationLaws.{length-H, at-H, common-of-same, common-of-unknown}
@@ -29,7 +30,6 @@ use Rattle.net.specs.WellFormed.{C1}
 use Rattle.net.specs.Ternary.{symbolSignal, signalVector, SignalsDisagree, settled}
 use Rattle.net.proofs.Keys.{key-at, key-storage}
 use Rattle.net.proofs.Local.{excitation-local}
-use Rattle.net.proofs.WellFormed.{binary-iff}
 use Rattle.net.proofs.SignalTable.{at-signal, signal-at, signal-by, gather-lt, gather-place, spread-signal, excitation-gather, c1-by-signals}
 
 module _ (N : Net) (y : ℕ) (p r : List ℕ) where

@@ -14,7 +14,7 @@ use Rattle.net.specs.Symbols.{within, decode, isVariable, symbolBound}
 use Rattle.net.specs.Graph.{vertexAt, isInput, keyIndex}
 use Rattle.net.specs.State.{symbolValue, value, inputOf}
 use Rattle.ternary.proofs.Tests.{ands, both, cond-by}
-use Rattle.ternary.proofs.BitLaws.{bit-lt}
+use Rattle.ternary.proofs.BitLaws.{bit-lt, binary-iff}
 
 pub within-low : (low high n : ℕ) → within low high n ≡ true → low ≤ n
 within-low low high n e = leb-true low n (search ands)
@@ -35,12 +35,7 @@ unfolding value symbolValue
 value-lt N a q s = decode-by (λ x. symbolValue N a q x < 2) s (λ h. omega arith) (λ _ _. bit-lt a _) (λ _ _. bit-lt q _) (lit< tt)
 
 pub value-cases : (N : Net) (a q s : ℕ) → (value N a q s ≡ 0) ⊎ (value N a q s ≡ 1)
-value-cases N a q s = go (value N a q s) (value-lt N a q s)
-  where
-    go : (v : ℕ) → v < 2 → (v ≡ 0) ⊎ (v ≡ 1)
-    go zero h = inl refl
-    go (suc zero) h = inr refl
-    go (suc (suc v)) h = absurd (omega arith)
+value-cases N a q s = binary-iff (value N a q s) .0 (value-lt N a q s)
 
 -- a variable is a symbol number below the bound
 pub variable-range : (s : ℕ) → isVariable (decode s) ≡ true → s < symbolBound

@@ -1,10 +1,9 @@
 -- The tests of stable states and of conditions C1 to C3 mean what the propositions say.
-use Prim.Native.Nat.{ℕ, zero, suc, _^_, _<_}
-use mathlib.Core.Path.{_≡_, refl}
+use Prim.Native.Nat.{ℕ, suc, _^_, _<_}
+use mathlib.Core.Path.{_≡_}
 use mathlib.Core.Bool.{Bool, true, false, not, _&&_}
-use mathlib.Core.Logic.{_↔_, _⊎_, inl, inr, ⊎-elim, Iff·trans}
+use mathlib.Core.Logic.{_↔_, Iff·trans}
 use mathlib.Core.Option.{none, some}
-use native.Mathlib.Omega.{arith}
 use lib.Dec.{eqb, ltb}
 use borrow.Author.Tests.{eqb-true, eq-eqb, ltb-true, lt-ltb, not-true, not-false}
 use Rattle.ternary.specs.Lists.{allBelow}
@@ -17,19 +16,11 @@ use Rattle.net.specs.Excitation.{excitation, fights}
 use Rattle.net.specs.Network.{network, Clean, Stable, stable}
 use Rattle.net.specs.WellFormed.{C1, C2, C3, everyState, breaksC1, placeC1, testC2, breaksC3, placeC3}
 use Rattle.ternary.proofs.Tests.{and-left, and-right, both, by-test, fails, not-and, not-both}
+use Rattle.ternary.proofs.BitLaws.{binary-iff}
 use Rattle.ternary.proofs.ListLaws.{all-at, all-of, all-false, least-none-iff, least-some-iff}
 use Rattle.net.proofs.Classes.{role-range, storage-range}
 use Rattle.net.proofs.Fights.{fights-iff}
 use Rattle.net.proofs.Keys.{key-at, index-at, key-storage}
-
--- 0 or 1
-pub binary-iff : (v : ℕ) → (v < 2) ↔ ((v ≡ 0) ⊎ (v ≡ 1))
-binary-iff v = (there v, λ s. ⊎-elim (λ e. omega arith) (λ e. omega arith) s)
-  where
-    there : (v : ℕ) → v < 2 → (v ≡ 0) ⊎ (v ≡ 1)
-    there zero h = inl refl
-    there (suc zero) h = inr refl
-    there (suc (suc v)) h = absurd (omega arith)
 
 module _ (N : Net) where
   pub stable-iff : (a q : ℕ) → (stable N a q ≡ true) ↔ Stable N a q

@@ -4,7 +4,7 @@ use native.Mathlib.Nat.{zero-mul, suc-mul, add-comm}
 use native.Mathlib.Omega.{arith}
 use mathlib.Core.Bool.{true}
 use mathlib.Core.Path.{_≡_, refl, sym, ap, _∙_}
-use mathlib.Core.Logic.{_≢_}
+use mathlib.Core.Logic.{_≢_, _↔_}
 use mathlib.Core.List.{List, [], _∷_, _++_}
 use mathlib.Core.Option.{Option, none, some}
 use lib.ListN.{length, take, drop, getD, length-append, length-drop, take-append-drop}
@@ -18,13 +18,13 @@ use Rattle.sheet.specs.Limits.{lineWidth}
 use Rattle.sheet.specs.declared.Answer.{Answer}
 use Rattle.sheet.specs.declared.JobLine.{JobLine}
 use Rattle.sheet.specs.declared.JobLine.the-variants.{Asked, Refused}
-use Rattle.sheet.specs.Rows.{answer, firstRow}
+use Rattle.sheet.specs.Rows.{answer, Row, firstRow, answered, First, NoRow}
 use Rattle.sheet.specs.Valid.{valid}
 use Rattle.sheet.specs.Job.{jobOf}
-use Rattle.sheet.proofs.RowLaws.{by-rows-none, by-rows-some}
+use Rattle.sheet.proofs.RowLaws.{by-rows-none, by-rows-some, by-rows-answer, positive, first-some, answered-zero, answered-some}
 use Rattle.settling.specs.Settle.{Settlement, written, settleUnder}
 use Rattle.settling.specs.Batch.{jobCount, pieces, jobWidth, answerWidth, jobRows, jobSettlement, runJobs, Batch, batchRows, batchOf}
-use Rattle.settling.proofs.SettleLaws.{Startable, inputs-pass, start-passes, rest-passes, settle-none, settle-some, length-written-r, length-written-t}
+use Rattle.settling.proofs.SettleLaws.{Startable, settlementAnswer, inputs-pass, start-passes, rest-passes, settle-none, settle-some, length-written-r, length-written-t}
 
 -- ---- pieces of one width in a row
 
@@ -175,13 +175,40 @@ unfolding batchOf
 batch-accepts N jobs results answers v c hr ha =
     by-rows-none (batchRows N (jobCount jobs) results answers) _ _ (batch-rows-pass N (jobCount jobs) results answers v c hr ha)
 
--- a batch refused as a whole changes no byte
-pub batch-refused : (N : Net) (jobs results answers : List ℕ) → batchOf N jobs results answers .answer .number ≢ 0
-    → batchOf N jobs results answers .buffers ≡ record { results = results; answers = answers }
-unfolding batchOf
-batch-refused N jobs results answers ne = go (firstRow (batchRows N (jobCount jobs) results answers)) refl
-  where
-    go : (o : Option Answer) → firstRow (batchRows N (jobCount jobs) results answers) ≡ o
-        → batchOf N jobs results answers .buffers ≡ record { results = results; answers = answers }
-    go none f = absurd (ne (ap (λ (b : Batch). b .answer .number) (by-rows-none (batchRows N (jobCount jobs) results answers) _ _ f)))
-    go (some a) f = ap (λ (b : Batch). b .buffers) (by-rows-some (batchRows N (jobCount jobs) results answers) _ _ a f)
+-- ---- the answer of a whole batch, by rows
+
+module _ (N : Net) (jobs results answers : List ℕ) where
+  abbrev rows : List Row
+  rows = batchRows N (jobCount jobs) results answers
+
+  batch-answer : batchOf N jobs results answers .answer ≡ answered (firstRow rows)
+  unfolding batchOf
+  batch-answer = by-rows-answer rows _ _ (λ (b : Batch). b .answer) refl (λ a. refl)
+
+  -- 0 exactly if no row's condition holds
+  pub batch-zero : (batchOf N jobs results answers .answer .number ≡ 0) ↔ NoRow rows
+  unfolding batchRows positive
+  batch-zero = rw (ap (λ (a : Answer). a .number) batch-answer) (answered-zero rows refl)
+
+  -- a number with its place exactly if its row is the first that holds
+  pub batch-number : (n p : ℕ) → 1 ≤ n → (batchOf N jobs results answers .answer ≡ answer n p) ↔ First rows n p
+  batch-number n p h = rw batch-answer (answered-some rows n p h)
+
+  -- and then no byte changes
+  pub batch-refused : (n p : ℕ) → First rows n p → batchOf N jobs results answers ≡ record { answer = answer n p; buffers = record { results = results; answers = answers } }
+  unfolding batchOf
+  batch-refused n p f = by-rows-some rows _ _ (answer n p) (first-some rows n p .1 f)
+
+-- ---- the answer of one job, by rows
+
+module _ (N : Net) (A B q : ℕ) (own : List ℕ) where
+  job-answer : settlementAnswer (jobSettlement N (Asked A B q) own) ≡ answered (firstRow (jobRows N A B q))
+  unfolding jobSettlement settleUnder written
+  job-answer = by-rows-answer (jobRows N A B q) _ _ settlementAnswer refl (λ a. refl)
+
+  pub job-zero : (jobSettlement N (Asked A B q) own .answer .number ≡ 0) ↔ NoRow (jobRows N A B q)
+  unfolding jobRows positive
+  job-zero = rw (ap (λ (a : Answer). a .number) job-answer) (answered-zero (jobRows N A B q) refl)
+
+  pub job-number : (n p : ℕ) → 1 ≤ n → (settlementAnswer (jobSettlement N (Asked A B q) own) ≡ answer n p) ↔ First (jobRows N A B q) n p
+  job-number n p h = rw job-answer (answered-some (jobRows N A B q) n p h)

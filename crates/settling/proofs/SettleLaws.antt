@@ -2,6 +2,7 @@
 use Prim.Native.Nat.{ℕ, _≤_, _<_}
 use mathlib.Core.Path.{_≡_, refl, sym, ap, _∙_}
 use mathlib.Core.Bool.{Bool, true, false, not, _&&_, _||_}
+use mathlib.Core.Logic.{_↔_}
 use mathlib.Core.List.{List, _++_}
 use mathlib.Core.Option.{none, some}
 use native.Mathlib.Omega.{arith}
@@ -17,9 +18,9 @@ use Rattle.net.specs.WellFormed.{C1, placeC1}
 use Rattle.net.specs.Ternary.{settled}
 use Rattle.net.proofs.WellFormed.{place-c1-none, stable-iff}
 use Rattle.sheet.specs.declared.Answer.{Answer}
-use Rattle.sheet.specs.Rows.{Row, firstRow}
+use Rattle.sheet.specs.Rows.{answer, Row, firstRow, answered, First, NoRow}
 use Rattle.sheet.specs.Valid.{valid}
-use Rattle.sheet.proofs.RowLaws.{by-rows-none, by-rows-some}
+use Rattle.sheet.proofs.RowLaws.{by-rows-none, by-rows-some, by-rows-answer, positive, first-some, answered-zero, answered-some}
 use Rattle.settling.specs.Settle.{Settlement, unsettled, written, settleUnder, settleRows, settleOf}
 
 -- what a job may be settled from: both inputs are input states, and the start is a key state that is stable under the old
@@ -78,3 +79,28 @@ module _ (N : Net) (A B q : ℕ) where
   pub length-written-t : (R T : List ℕ) → keyCount N ≤ length T → length (written N A B q R T .t) ≡ length T
   unfolding written
   length-written-t R T h = simp (length-append, length-drop) (omega (arith, second-vector-length (N .«letter_count») (keyCount N) (network N) A B q))
+
+-- ---- the answer, by rows
+
+-- the number and place that a settlement answers with
+abbrev pub settlementAnswer : Settlement → Answer
+settlementAnswer s = answer (s .answer .number) (s .answer .place)
+
+module _ (N : Net) (A B q : ℕ) (R T : List ℕ) where
+  settle-answer : settlementAnswer (settleOf N A B q R T) ≡ answered (firstRow (settleRows N A B q R T))
+  unfolding settleOf settleUnder written
+  settle-answer = by-rows-answer (settleRows N A B q R T) _ _ settlementAnswer refl (λ a. refl)
+
+  -- 0 exactly if no row's condition holds
+  pub settle-zero : (settleOf N A B q R T .answer .number ≡ 0) ↔ NoRow (settleRows N A B q R T)
+  unfolding settleRows positive
+  settle-zero = rw (ap (λ (a : Answer). a .number) settle-answer) (answered-zero (settleRows N A B q R T) refl)
+
+  -- a number with its place exactly if its row is the first that holds
+  pub settle-number : (n p : ℕ) → 1 ≤ n → (settlementAnswer (settleOf N A B q R T) ≡ answer n p) ↔ First (settleRows N A B q R T) n p
+  settle-number n p h = rw settle-answer (answered-some (settleRows N A B q R T) n p h)
+
+  -- and then the counts are 0 and no byte changes
+  pub settle-refused : (n p : ℕ) → First (settleRows N A B q R T) n p → settleOf N A B q R T ≡ unsettled (answer n p) R T
+  unfolding settleOf
+  settle-refused n p f = settle-some N A B q (settleRows N A B q R T) R T (answer n p) (first-some (settleRows N A B q R T) n p .1 f)

@@ -1,7 +1,7 @@
 -- The first row whose condition holds: what is computed is what is declared, for any list of rows.
 use Prim.Native.Nat.{ℕ, _≤_}
 use native.Mathlib.Omega.{arith}
-use mathlib.Core.Path.{_≡_, refl, sym, ap, subst}
+use mathlib.Core.Path.{_≡_, refl, sym, ap, subst, _∙_}
 use mathlib.Core.Logic.{_↔_}
 use mathlib.Core.Bool.{Bool, true, false, _&&_, true≢false}
 use mathlib.Core.List.{List, [], _∷_}
@@ -69,6 +69,15 @@ module _ {A : Type 0} (rs : List Row) (x : A) (refuse : Answer → A) where
   pub by-rows-some : (a : Answer) → firstRow rs ≡ some a → byRows rs x refuse ≡ refuse a
   unfolding byRows
   by-rows-some a e = rw (e, byRows)
+
+  -- where what is given tells its answer, that is 0 or the first row's
+  pub by-rows-answer : (answerOf : A → Answer) → answerOf x ≡ answer 0 0 → ((a : Answer) → answerOf (refuse a) ≡ a)
+      → answerOf (byRows rs x refuse) ≡ answered (firstRow rs)
+  by-rows-answer answerOf e f = go (firstRow rs) refl
+    where
+      go : (o : Option Answer) → firstRow rs ≡ o → answerOf (byRows rs x refuse) ≡ answered o
+      go none h = ap answerOf (by-rows-none h) ∙ e
+      go (some a) h = ap answerOf (by-rows-some a h) ∙ f a
 
 -- ---- what a call answers with: number 0 stands for no row, if no row has it
 

@@ -2,12 +2,22 @@
 use Prim.Native.Nat.{ℕ, zero, suc, _+_, _*_, _/_, _%_, _^_, _<_}
 use mathlib.Core.Path.{_≡_, refl, sym, ap, _∙_}
 use mathlib.Core.Bool.{Bool, true, false}
+use mathlib.Core.Logic.{_↔_, _⊎_, inl, inr, ⊎-elim}
 use native.Mathlib.Omega.{arith}
 use native.Mathlib.Nat.{div-div-eq-div-mul, pow-succ', pow-zero, div-one}
 use lib.Dec.{eqb}
 use Rattle.ternary.specs.Bits.{bit, number, has, digit, setOf}
 
 -- ---- bits
+
+-- a number below 2 is 0 or 1
+pub binary-iff : (v : ℕ) → (v < 2) ↔ ((v ≡ 0) ⊎ (v ≡ 1))
+binary-iff v = (there v, λ s. ⊎-elim (λ e. omega arith) (λ e. omega arith) s)
+  where
+    there : (v : ℕ) → v < 2 → (v ≡ 0) ⊎ (v ≡ 1)
+    there zero h = inl refl
+    there (suc zero) h = inr refl
+    there (suc (suc v)) h = absurd (omega arith)
 
 pub bit-lt : (n k : ℕ) → bit n k < 2
 unfolding bit

@@ -10,15 +10,12 @@ use lib.Dec.{eqb}
 use lib.ListN.{length}
 use borrow.Author.Tests.{eqb-true, eqb-false}
 use Rattle.ternary.specs.Signal.{X, Signal, Covers, at, Completes, every}
-use Rattle.ternary.specs.Excitation.{agreed, commonOf, common, H, C1, Disagree, DisagreeAt}
+use Rattle.ternary.specs.Excitation.{agreed, AllGive, commonOf, common, H, C1, Disagree, DisagreeAt}
+use Rattle.ternary.proofs.BitLaws.{binary-iff}
 use Rattle.ternary.proofs.ListLaws.{length-table}
 use Rattle.ternary.proofs.SignalLaws.{covers-antisym, nil, every-true, every-false, completion, Above, above-completes, at-table}
 
 module _ (F : ℕ → ℕ → ℕ → ℕ) (p r : List ℕ) (k : ℕ) where
-  -- every completion excites k to v
-  abbrev pub AllGive : ℕ → Type 0
-  AllGive v = (a q : ℕ) → Completes p a → Completes r q → F a q k ≡ v
-
   -- some completion excites k to something else
   abbrev pub NotAllGive : ℕ → Type 0
   NotAllGive v = (a : ℕ) × (q : ℕ) × Completes p a × Completes r q × (F a q k ≢ v)
@@ -29,14 +26,14 @@ module _ (F : ℕ → ℕ → ℕ → ℕ) (p r : List ℕ) (k : ℕ) where
 
   -- what it means that the ternary excitation of k is s
   pub data Common : ℕ → Type 0 where
-    zeros : AllGive 0 → Common 0
-    ones : NotAllGive 0 → AllGive 1 → Common 1
+    zeros : AllGive F p r k 0 → Common 0
+    ones : NotAllGive 0 → AllGive F p r k 1 → Common 1
     mixed : NotAllGive 0 → NotAllGive 1 → Common X
 
   test : ℕ → Bool
   test v = every p (λ a. every r (λ q. eqb (F a q k) v))
 
-  passed : (v : ℕ) → test v ≡ true → AllGive v
+  passed : (v : ℕ) → test v ≡ true → AllGive F p r k v
   unfolding test
   passed v e a q ca cq = eqb-true (F a q k) v (every-true r (λ q. eqb (F a q k) v) (every-true p (λ a. every r (λ q. eqb (F a q k) v)) e a ca) q cq)
 
@@ -64,6 +61,30 @@ module _ (F : ℕ → ℕ → ℕ → ℕ) where
       go (zeros f) = inl refl
       go (ones w f) = inr (inl refl)
       go (mixed w v) = inr (inr refl)
+
+  -- it is 0, or 1, exactly if every completion gives that
+  pub common-gives : (p r : List ℕ) (k v : ℕ) → v < 2 → (common F p r k ≡ v) ↔ AllGive F p r k v
+  common-gives p r k v l = (there (common-is p r k), back (common-is p r k))
+    where
+      there : {s : ℕ} → Common F p r k s → s ≡ v → AllGive F p r k v
+      there (zeros f) e = rw e at f
+      there (ones w f) e = rw e at f
+      there (mixed w w′) e = absurd (omega arith)
+
+      some : AllGive F p r k v → (u : ℕ) → AllGive F p r k u → u ≡ v
+      some g u f =
+          let a = completion p in
+          let q = completion r in
+          sym (f (a .0) (q .0) (a .1) (q .1)) ∙ g (a .0) (q .0) (a .1) (q .1)
+
+      never : AllGive F p r k v → NotAllGive F p r k 0 → NotAllGive F p r k 1 → (v ≡ 0) ⊎ (v ≡ 1) → ⊥
+      never g w w′ (inl e) = w .4 (g (w .0) (w .1) (w .2) (w .3) ∙ e)
+      never g w w′ (inr e) = w′ .4 (g (w′ .0) (w′ .1) (w′ .2) (w′ .3) ∙ e)
+
+      back : {s : ℕ} → Common F p r k s → AllGive F p r k v → s ≡ v
+      back (zeros f) g = some g 0 f
+      back (ones w f) g = some g 1 f
+      back (mixed w w′) g = absurd (never g w w′ (binary-iff v .0 l))
 
   -- it covers what any completion gives
   pub common-covers : (p r : List ℕ) (k a q : ℕ) → Completes p a → Completes r q → Covers (common F p r k) (F a q k)

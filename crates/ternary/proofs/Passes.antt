@@ -169,7 +169,8 @@ module _ (L h : ℕ) (F : ℕ → ℕ → ℕ → ℕ) (A B q : ℕ) where
     second-length zero = rw (first-ends .isFixed) at (length-H F h (mix L A B) r₁)
     second-length (suc m) = length-H F h (table L (bit B)) (t m)
 
-    second-signal : (m k : ℕ) → k < h → Signal (at (t m) k)
+    -- every place of the second pass's vectors, the first of which ends the first pass, is a signal
+    pub second-signal : (m k : ℕ) → k < h → Signal (at (t m) k)
     unfolding iterate
     second-signal zero k l = rw (first-ends .isFixed) at (H-signal F h (mix L A B) r₁ k (omega (arith, length-H F h (mix L A B) r₁)))
     second-signal (suc m) k l = H-signal F h (table L (bit B)) (t m) k (omega (arith, length-H F h (table L (bit B)) (t m)))

@@ -19,8 +19,12 @@ agreed false false = X
 unfoldable pub commonOf : (ℕ → ℕ) → List ℕ → ℕ
 commonOf f r = agreed (every r (λ w. eqb (f w) 0)) (every r (λ w. eqb (f w) 1))
 
+-- every binary completion of p and r excites key node k to v
+abbrev pub AllGive : (ℕ → ℕ → ℕ → ℕ) → List ℕ → List ℕ → ℕ → ℕ → Type 0
+AllGive F p r k v = (a q : ℕ) → Completes p a → Completes r q → F a q k ≡ v
+
 module _ (F : ℕ → ℕ → ℕ → ℕ) where
-  -- the value that every completion of p and r excites key node k to, else X
+  -- the value v in {0, 1} that every completion of p and r excites key node k to, else X (`common-gives`)
   unfoldable pub common : List ℕ → List ℕ → ℕ → ℕ
   common p r k = agreed
       (every p (λ a. every r (λ q. eqb (F a q k) 0)))
