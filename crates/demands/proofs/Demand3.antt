@@ -27,13 +27,13 @@ use Rattle.settling.proofs.BatchLaws.{vectorsOf, answerBytes, settlementAt, res
 use Rattle.demands.specs.Demand3.{Settles, Promise, SettlePromise, JobPromise}
 
 module _ {sheet : List ℕ} {N : Net} {A B q : ℕ} (s : Settles sheet N A B q) where
-  premises : Premises (N .«letter_count») (keyCount N) (network N) A B q
+  pub premises : Premises (N .«letter_count») (keyCount N) (network N) A B q
   premises = record { c1 = s .c1; old = s .old; new = s .new; key = s .key; rest = s .rest }
 
-  startable : Startable N A B q
+  pub startable : Startable N A B q
   startable = record { old = record { input = s .old; key = s .key }; new = record { input = s .new; key = s .key }; rest = s .rest }
 
-  is-valid : valid N ≡ true
+  pub is-valid : valid N ≡ true
   is-valid = read-valid sheet N (s .reads)
 
   -- buffers that hold the passes' signals keep the promise

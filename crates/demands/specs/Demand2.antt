@@ -1,0 +1,38 @@
+-- Demand 2: excitations, conditions C1 to C3 and both passes are those of the report as document 01 fixes them.
+use Prim.Native.Nat.{ℕ, _<_}
+use mathlib.Core.Path.{_≡_}
+use mathlib.Core.Logic.{_↔_}
+use mathlib.Core.List.{List}
+use lib.ListN.{length, take}
+use Rattle.ternary.specs.Lists.{table}
+use Rattle.ternary.specs.Bits.{bit}
+use Rattle.ternary.specs.Signal.{X, Signal, at}
+use Rattle.ternary.specs.Excitation.{H}
+use Rattle.ternary.specs.Passes.{mix, Ends}
+use Rattle.net.specs.declared.Net.{Net}
+use Rattle.net.specs.Graph.{keyCount, keyVertex}
+use Rattle.net.specs.Walks.{ExcitedTo0, ExcitedTo1, Floating}
+use Rattle.net.specs.Network.{network}
+use Rattle.net.specs.Ternary.{SignalsDisagree}
+use Rattle.settling.specs.Settle.{Settlement}
+
+-- v is the excitation of storage vertex y: each value exactly in document 01's case
+pub record ExcitationMeans (N : Net) (a q y v : ℕ) : Type 0 where
+  pub zero : (v ≡ 0) ↔ ExcitedTo0 N a q y
+  pub one : (v ≡ 1) ↔ ExcitedTo1 N a q y
+  pub floating : (v ≡ 3) ↔ Floating N a q y
+  pub otherwise : (v ≡ 2) ↔ ((¬ ExcitedTo0 N a q y) × (¬ ExcitedTo1 N a q y) × (¬ Floating N a q y))
+
+-- vector v ends a pass by H(p, .) from `from` with so many steps: it is the first fixed point, its h bytes are 0, 1 or X, and key node k is X exactly
+-- if two assignments of the signals of its component, both covered by those signals, disagree on its excitation
+pub record PassMeans (N : Net) (p from v : List ℕ) (steps : ℕ) : Type 0 where
+  pub ends : Ends (H (network N) (keyCount N) p) (keyCount N) from (record { vector = v; steps = steps })
+  pub size : length v ≡ keyCount N
+  pub signals : (k : ℕ) → k < keyCount N → Signal (at v k)
+  pub unknown : (k : ℕ) → k < keyCount N → (at v k ≡ X) ↔ SignalsDisagree N p v (keyVertex N k)
+
+-- the h bytes that settling wrote to each buffer are the two passes: the first from q with X where A and B differ, the second under B from the first's
+-- last vector
+pub record PassesMean (N : Net) (A B q : ℕ) (S : Settlement) : Type 0 where
+  pub first : PassMeans N (mix (N .«letter_count») A B) (table (keyCount N) (bit q)) (take (keyCount N) (S .r)) (S .answer .«first_steps»)
+  pub second : PassMeans N (table (N .«letter_count») (bit B)) (take (keyCount N) (S .r)) (take (keyCount N) (S .t)) (S .answer .«second_steps»)
