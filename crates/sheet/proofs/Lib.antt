@@ -4,6 +4,7 @@ pub mod LineLaws
 pub mod RowLaws
 pub mod RuleLaws
 pub mod Places
+pub mod GraphLaws
 pub mod Validity
 pub mod WriteLaws
 pub mod LineInversion
