@@ -170,12 +170,12 @@ module _ (N : Net) where
     pub key : keyPlace N ≡ none
     pub signal : signalPlace N ≡ none
 
-  pub graph-none : firstRow (graphRows N) ≡ none → NoGraphRow
+  pub graph-none : (firstRow (graphRows N) ≡ none) ↔ NoGraphRow
   unfolding graphRows
-  graph-none e = go (first-none (graphRows N) .0 e)
+  graph-none = (λ e. there (first-none (graphRows N) .0 e), λ r. first-none (graphRows N) .1 (next (r .partner) (next (r .key) (next (r .signal) end))))
     where
-      go : NoRow (graphRows N) → NoGraphRow
-      go (next p (next k (next s end))) = record { partner = p; key = k; signal = s }
+      there : NoRow (graphRows N) → NoGraphRow
+      there (next p (next k (next s end))) = record { partner = p; key = k; signal = s }
 
   role-low : (y r : ℕ) → hasRole N y r ≡ true → 1 ≤ y
   unfolding hasRole

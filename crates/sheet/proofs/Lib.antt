@@ -10,3 +10,7 @@ pub mod WriteLaws
 pub mod LineInversion
 pub mod BodyInversion
 pub mod ReadLaws
+pub mod LoopLaws
+pub mod Outcome
+pub mod Known
+pub mod JobLaws
