@@ -14,3 +14,5 @@ pub mod LoopLaws
 pub mod Outcome
 pub mod Known
 pub mod JobLaws
+pub mod Sheets
+pub mod Examples
