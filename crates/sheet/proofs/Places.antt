@@ -1,13 +1,17 @@
--- Lists stored from place 0 of a zeroed array, and tests of every element of a list.
+-- Lists stored from place 0 of a zeroed array, tests of every element of a list, and the element at a place.
 use Prim.Native.Nat.{ℕ, zero, suc, _+_, _-_, _≤_, _<_}
 use native.Mathlib.Nat.{zero-add, suc-sub-suc, zero-sub, sub-zero, not-suc-le-zero, le-of-suc-le-suc}
 use native.Mathlib.Omega.{arith}
 use mathlib.Core.Path.{_≡_, refl, ap, _∙_}
-use mathlib.Core.Bool.{Bool, true}
+use mathlib.Core.Logic.{_↔_}
+use mathlib.Core.Bool.{Bool, true, true≢false}
 use mathlib.Core.List.{List, [], _∷_, _++_}
-use lib.ListN.{length, getD, take, drop, replicate, length-replicate, length-drop, take-append-drop}
+use mathlib.Core.Option.{none, some}
+use lib.Dec.{ltb}
+use lib.ListN.{length, getD, getElem?, take, drop, replicate, length-replicate, length-drop, take-append-drop}
 use lib.Seq.{sets, sets-eq, length-take-le, getD-take, take-at, drop-at}
-use Rattle.ternary.proofs.Tests.{ands, both}
+use borrow.Author.Tests.{ltb-true, ltb-false}
+use Rattle.ternary.proofs.Tests.{ands, both, by-test}
 use Rattle.sheet.specs.Valid.{allOf}
 
 module _ {A : Type 0} (z : A) where
@@ -58,3 +62,32 @@ module _ {A : Type 0} (p : A → Bool) where
   -- element i of the first k passes, if all of these do
   pub all-taken : (k : ℕ) (l : List A) (d : A) (i : ℕ) → allOf p (take k l) ≡ true → k ≤ length l → i < k → p (getD l i d) ≡ true
   all-taken k l d i h fits below = rw (← (getD-take k l i d below)) (all-getD (take k l) d i h (rw (length-take-le k l fits) below))
+
+-- ---- the element at a place, if the list is that long
+
+module _ {A : Type 0} where
+  get-inside : (l : List A) (i : ℕ) (d : A) → i < length l → getElem? l i ≡ some (getD l i d)
+  get-inside [] i d h = absurd (not-suc-le-zero h)
+  get-inside (x ∷ xs) zero d h = refl
+  get-inside (x ∷ xs) (suc i) d h = get-inside xs i d (le-of-suc-le-suc h)
+
+  get-outside : (l : List A) (i : ℕ) → length l ≤ i → getElem? l i ≡ none
+  get-outside [] i h = refl
+  get-outside (x ∷ xs) zero h = absurd (not-suc-le-zero h)
+  get-outside (x ∷ xs) (suc i) h = get-outside xs i (le-of-suc-le-suc h)
+
+  pub get-none : (l : List A) (i : ℕ) (d : A) → (getElem? l i ≡ none) ↔ (length l ≤ i)
+  get-none l i d = (
+    λ e. by-test (ltb i (length l))
+        (λ h. let s = get-inside l i d (ltb-true i (length l) h) in absurd (true≢false (cc)))
+        (ltb-false i (length l)),
+    get-outside l i,
+  )
+
+  pub get-some : (l : List A) (i : ℕ) (d x : A) → (getElem? l i ≡ some x) ↔ ((i < length l) × (getD l i d ≡ x))
+  get-some l i d x = (
+    λ e. by-test (ltb i (length l))
+        (λ h. let s = get-inside l i d (ltb-true i (length l) h) in (ltb-true i (length l) h, cc))
+        (λ h. let s = get-outside l i (ltb-false i (length l) h) in absurd (true≢false (cc))),
+    λ h. get-inside l i d (h .0) ∙ ap some (h .1),
+  )
