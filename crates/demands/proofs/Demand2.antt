@@ -25,7 +25,7 @@ use Rattle.sheet.specs.Record.{accepted}
 use Rattle.sheet.specs.Reading.{readSheet}
 use Rattle.sheet.specs.Valid.{valid}
 use Rattle.sheet.proofs.ReadLaws.{read-valid}
-use Rattle.sheet.proofs.GraphLaws.{valid-known}
+use Rattle.sheet.proofs.Known.{valid-known}
 use Rattle.verdict.specs.declared.Excited.the-variants.{Value}
 use Rattle.verdict.specs.Excited.{excitedOf}
 use Rattle.verdict.specs.Verdict.{verdictOf}
@@ -39,7 +39,7 @@ use Rattle.demands.proofs.Demand3.{premises, startable, is-valid}
 
 -- ---- an accepted net
 
-module _ {sheet : List ℕ} {N : Net} (reads : readSheet sheet ≡ accepted N) where
+module _ (sheet : List ℕ) (N : Net) (reads : readSheet sheet ≡ accepted N) where
   ok : valid N ≡ true
   ok = read-valid sheet N reads
 

@@ -1,2 +1,4 @@
+pub mod Nets
+pub mod Table
 pub mod Demand2
 pub mod Demand3

@@ -20,7 +20,8 @@ use Rattle.sheet.specs.Reading.{withVertices, withEdges, sizeOk, readShe
 use Rattle.sheet.specs.Writing.{writeSheet}
 use Rattle.sheet.specs.Valid.{valid}
 use Rattle.sheet.specs.Job.{jobOf}
-use Rattle.sheet.proofs.Sheets.{open-all, bytes, sheetWith, workedSheet, workedNet}
+use Rattle.sheet.specs.Text.{bytes}
+use Rattle.sheet.proofs.Sheets.{open-all, sheetWith, workedSheet, workedNet}
 
 -- ---- the worked sheet
 

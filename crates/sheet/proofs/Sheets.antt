@@ -1,7 +1,6 @@
 -- Document 01's worked sheet as a text and as a record, and one name that opens every definition of the sheet.
 use Prim.Native.Nat.{ℕ}
-use Prim.Native.Char.{code}
-use Prim.Native.String.{String, [] as end, _∷_ as _then_}
+use Prim.Native.String.{String}
 use mathlib.Core.List.{List, [], _∷_, _++_}
 use Rattle.net.specs.declared.Net.{Net}
 use Rattle.net.specs.SignalTable.{signalCount}
@@ -17,6 +16,7 @@ use Rattle.sheet.specs.Reading.{vertexLineOk, edgeLineOk, addLine, stepL
 use Rattle.sheet.specs.Writing.{vertexLines, edgeLines, writeSheet}
 use Rattle.sheet.specs.Valid.{allOf, isNoVertex, isNoEdge, passes, valid}
 use Rattle.sheet.specs.Job.{jobOf}
+use Rattle.sheet.specs.Text.{bytes}
 
 -- `unfolding open-all` opens every definition of the sheet and of the net
 unfoldable pub open-all : Unit {0}
@@ -26,11 +26,6 @@ unfolding
     signalPlace graphRows vertexLineOk edgeLineOk addLine stepLine conclude readLines sizeOk readHeader readSheet vertexLines edgeLines
     writeSheet allOf isNoVertex isNoEdge passes valid jobOf
 open-all = tt
-
--- the bytes of a text in which every character is one byte
-abbrev pub bytes : String → List ℕ
-bytes end = []
-bytes (c then s) = code c ∷ bytes s
 
 -- document 01's sheet with other lines 1, 5 and 8
 abbrev pub sheetWith : String → String → String → List ℕ

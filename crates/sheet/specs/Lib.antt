@@ -10,3 +10,4 @@ pub mod Reading
 pub mod Writing
 pub mod Valid
 pub mod Job
+pub mod Text
