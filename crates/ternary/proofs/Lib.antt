@@ -1,3 +1,4 @@
+pub mod Examples
 pub mod Tests
 pub mod ListLaws
 pub mod BitLaws
@@ -9,4 +10,3 @@ pub mod Passes
 pub mod RunLaws
 pub mod Invariant
 pub mod Demand
-pub mod Example
