@@ -1,14 +1,16 @@
--- The NOR gate and the NOR latch of the report, computed from the definitions.
+-- Small nets, computed from the definitions: the report's NOR gate, NOR latch and transmission gates, and nets that break a condition.
+-- They open the definitions and use no law.
 use mathlib.Core.Path.{_≡_, refl}
+use mathlib.Core.Bool.{true, false}
 use mathlib.Core.List.{List, [], _∷_, map}
+use mathlib.Core.Option.{none, some}
 use Prim.Native.Nat.{ℕ, _/_, _%_}
 use Rattle.net.specs.declared.Net.{Net}
 use Rattle.ternary.specs.Lists.{listBelow}
 use Rattle.net.specs.Excitation.{excitation, fights}
 use Rattle.net.specs.Component.{signals}
 use Rattle.net.specs.Network.{stable}
-use Rattle.net.specs.WellFormed.{WellFormed}
-use Rattle.net.proofs.WellFormed.{place-c1-none, c2-iff, place-c3-none}
+use Rattle.net.specs.WellFormed.{placeC1, testC2, placeC3}
 use Rattle.net.proofs.Concrete.{vertex, edge, net, model}
 
 -- vertex 3 is the output z, 4 the inner vertex y; letters a = 11 and b = 12
@@ -62,9 +64,9 @@ latch-signals : signals latch 3 ≡ 11 ∷ 104 ∷ []
 unfolding model latch
 latch-signals = refl
 
-latch-well-formed : WellFormed latch
+latch-c1 : placeC1 latch ≡ none
 unfolding model latch
-latch-well-formed = record { c1 = place-c1-none latch .0 refl; c2 = c2-iff latch .0 refl; c3 = place-c3-none latch .0 refl }
+latch-c1 = refl
 
 -- a pair of transmission gates (the report's example 4.1), all four forms: y is b where a is 0, and c where a is 1; letters a, b, c
 selector : Net
@@ -81,3 +83,65 @@ selector-table = refl
 selector-signals : signals selector 3 ≡ 11 ∷ 12 ∷ 13 ∷ []
 unfolding model selector
 selector-signals = refl
+
+-- ---- nets that break a condition
+
+-- one edge between the 0- and the 1-vertex, closed by a letter, by key node 3, or never: a fight of one edge
+bridge : ℕ → Net
+unfolding net
+bridge s =
+    net (vertex 0 0 ∷ vertex 0 1 ∷ vertex 2 0 ∷ [])
+    (edge 1 2 0 s ∷ edge 2 3 1 11 ∷ edge 3 1 0 11 ∷ [])
+    1
+
+bridge-table : map (λ s. testC2 (bridge s)) (11 ∷ 103 ∷ 1 ∷ 0 ∷ []) ≡ false ∷ false ∷ false ∷ true ∷ []
+unfolding model bridge
+bridge-table = refl
+
+-- vertex 3 follows a and is a key node; vertex 4 has a fight where a is 1 and vertex 3 is not: never in a stable state
+passing : Net
+unfolding net
+passing =
+    net (vertex 0 0 ∷ vertex 0 1 ∷ vertex 1 0 ∷ vertex 2 0 ∷ vertex 0 11 ∷ [])
+    (edge 5 3 0 1 ∷ edge 5 3 1 0 ∷ edge 2 4 1 103 ∷ edge 4 1 0 11 ∷ [])
+    1
+
+passing-fights : map (λ q. fights passing 1 q) (0 ∷ 1 ∷ []) ≡ true ∷ false ∷ []
+unfolding model passing
+passing-fights = refl
+
+passing-c2 : testC2 passing ≡ true
+unfolding model passing
+passing-c2 = refl
+
+-- an output that only an n edge joins to 1 is 2 where the edge is closed; one that nothing joins is 3, which C3 allows
+weak : Net
+unfolding net
+weak =
+    net (vertex 0 1 ∷ vertex 2 0 ∷ vertex 2 0 ∷ [])
+    (edge 1 3 0 11 ∷ [])
+    1
+
+weak-table : map (λ a. map (excitation weak a 0) (2 ∷ 3 ∷ [])) (0 ∷ 1 ∷ []) ≡ (3 ∷ 3 ∷ []) ∷ (3 ∷ 2 ∷ []) ∷ []
+unfolding model weak
+weak-table = refl
+
+weak-c3 : placeC3 weak ≡ some 3
+unfolding model weak
+weak-c3 = refl
+
+-- the counterexample to the report's Proposition 3.2: a p-path to 1 beside a weak connection to 0; key node 1 is 2 at key state 0
+beside : Net
+unfolding net
+beside =
+    net (vertex 1 0 ∷ vertex 0 0 ∷ vertex 0 1 ∷ [])
+    (edge 1 3 1 0 ∷ edge 1 2 1 101 ∷ [])
+    0
+
+beside-table : map (λ q. excitation beside 0 q 1) (0 ∷ 1 ∷ []) ≡ 2 ∷ 1 ∷ []
+unfolding model beside
+beside-table = refl
+
+beside-c1 : placeC1 beside ≡ some 1
+unfolding model beside
+beside-c1 = refl

@@ -1,3 +1,6 @@
+pub mod Concrete
+pub mod Examples
+pub mod Nands
 pub mod Values
 pub mod Cases
 pub mod Classes
@@ -12,6 +15,3 @@ pub mod SignalTable
 pub mod SignalLists
 pub mod LocalFights
 pub mod TernaryLaws
-pub mod Concrete
-pub mod Examples
-pub mod Nands

@@ -1,15 +1,13 @@
 -- The report's three NAND gates, y1 = (a y2)', y2 = (y1 y3)', y3 = (y2 b)', computed: 8 vertices, 12 edges, 32 states.
+use Prim.Native.Nat.{ℕ}
 use mathlib.Core.Path.{_≡_, refl}
-use mathlib.Core.Bool.{Bool, true}
+use mathlib.Core.Bool.{true}
 use mathlib.Core.List.{List, [], _∷_, map}
-use Prim.Native.Nat.{ℕ, _/_, _%_}
+use mathlib.Core.Option.{none}
 use Rattle.net.specs.declared.Net.{Net}
-use Rattle.ternary.specs.Lists.{listBelow}
 use Rattle.net.specs.Excitation.{excitation}
 use Rattle.net.specs.Component.{signals}
-use Rattle.net.specs.Network.{stable}
-use Rattle.net.specs.WellFormed.{WellFormed}
-use Rattle.net.proofs.WellFormed.{place-c1-none, c2-iff, place-c3-none}
+use Rattle.net.specs.WellFormed.{placeC1, testC2, placeC3}
 use Rattle.net.proofs.Concrete.{vertex, edge, net, model}
 
 -- vertices 3, 4, 5 are y1, y2, y3, and 6, 7, 8 stand between the n edges
@@ -26,6 +24,19 @@ nands-signals : map (signals nands) (3 ∷ 4 ∷ 5 ∷ []) ≡ (11 ∷ 104 ∷ [
 unfolding model nands
 nands-signals = refl
 
-nands-well-formed : WellFormed nands
+-- vertex 6 at a = 1, y2 = 0: an n edge to y1 and a p edge on to 1 make no firm 1; at a = 0, y2 = 0 it floats
+nands-inner : map (λ a. excitation nands a 0 6) (1 ∷ 0 ∷ []) ≡ 2 ∷ 3 ∷ []
 unfolding model nands
-nands-well-formed = record { c1 = place-c1-none nands .0 refl; c2 = c2-iff nands .0 refl; c3 = place-c3-none nands .0 refl }
+nands-inner = refl
+
+nands-c1 : placeC1 nands ≡ none
+unfolding model nands
+nands-c1 = refl
+
+nands-c2 : testC2 nands ≡ true
+unfolding model nands
+nands-c2 = refl
+
+nands-c3 : placeC3 nands ≡ none
+unfolding model nands
+nands-c3 = refl
