@@ -29,7 +29,7 @@ job-written A B q a b c =
     let small : SmallLine (line 4 A B q 0) = omega arith in
     rw (read-write-line (line 4 A B q 0) small, jobOf)
 
--- by `elim`, as `jobOf` has it: a definition by clauses compiles to another motive
+-- `jobOf` after its line is read; an `elim` as there, since clauses would not be equal to it by computation
 abbrev jobFrom : Option Line → JobLine
 jobFrom o =
     elim o [

@@ -24,7 +24,7 @@ use Rattle.sheet.specs.Valid.{valid}
 use Rattle.sheet.proofs.RowLaws.{RowsAnswer, nothing, found, rows-answer}
 use Rattle.sheet.proofs.RuleLaws.{Counts, counts-facts}
 use Rattle.sheet.proofs.GraphLaws.{partner-some, key-vertex, signal-vertex}
-use Rattle.sheet.proofs.LineInversion.{Stepped, vertex, edge, no-fields, no-vertex, no-edge, stepped, afterStep}
+use Rattle.sheet.proofs.LineInversion.{Stepped, vertex, edge, not-fields, not-vertex, not-edge, stepped, afterStep}
 use Rattle.sheet.proofs.ReadLaws.{read-valid}
 
 -- the numbers that a sheet can be refused with, each with its places: a line from 1, or a vertex
@@ -70,9 +70,9 @@ lines-outcome (suc left) rest j N c h =
         → {s : Step} → Stepped (take lineWidth rest) j N s → Outcome (afterStep left (drop lineWidth rest) j s)
     go ih (vertex _ _ _ _) = ih _ c (omega arith)
     go ih (edge _ _ _ _) = ih _ c (omega arith)
-    go ih no-fields = refuse (fields (j + 2) (omega arith) (omega arith))
-    go ih no-vertex = refuse (vertex-line (j + 2) (omega arith) (omega arith))
-    go ih no-edge = refuse (edge-line (j + 2) (omega arith) (omega arith))
+    go ih not-fields = refuse (fields (j + 2) (omega arith) (omega arith))
+    go ih not-vertex = refuse (vertex-line (j + 2) (omega arith) (omega arith))
+    go ih not-edge = refuse (edge-line (j + 2) (omega arith) (omega arith))
 
 header-counts : (h : Line) → headerOk h ≡ true → Counts (h .second) (h .third) (h .fourth)
 unfolding headerOk
