@@ -36,7 +36,7 @@ pub record VerticesRead (m left : ℕ) (rest : List ℕ) (j : ℕ) (N N₁ : Net
   pub bytes : rest ≡ vertexLines j xs ++ more
   pub after : readLines left more (j + m) (withVertices N (sets (N .vertices) j xs)) ≡ accepted N₁
 
--- (a step of the recursion stands alone: its parts are variables, which antt need not write out)
+-- one step of the recursion, over variables
 vertices-cons : (m left : ℕ) (rest : List ℕ) (j : ℕ) (N N₁ : Net) (r : VertexRead (m + left) rest j N N₁)
     → VerticesRead m left (drop lineWidth rest) (suc j) (withVertices N (set (N .vertices) j (r .x))) N₁ → VerticesRead (suc m) left rest j N N₁
 unfolding allOf vertexLines vertexOk

@@ -8,6 +8,7 @@ use lib.ListN.{set}
 use Rattle.net.specs.declared.Vertex.{Vertex}
 use Rattle.net.specs.declared.Edge.{Edge}
 use Rattle.net.specs.declared.Net.{Net}
+use Rattle.net.specs.Limits.{mostLetters, mostKeyNodes, mostSignals, letterBase, vertexBase}
 use Rattle.net.proofs.Concrete.{vertex, edge, net}
 use Rattle.sheet.specs.declared.JobLine.the-variants.{Asked, Refused}
 use Rattle.sheet.specs.Limits.{fieldWidth, lineWidth, mostBytes}
@@ -15,7 +16,7 @@ use Rattle.sheet.specs.Field.{readField}
 use Rattle.sheet.specs.Line.{sheetLine, lineNumber}
 use Rattle.sheet.specs.Rows.{answer, firstRow}
 use Rattle.sheet.specs.Record.{refused, accepted}
-use Rattle.sheet.specs.Graph.{graphRows}
+use Rattle.sheet.specs.Graph.{keyPlace, graphRows}
 use Rattle.sheet.specs.Reading.{withVertices, withEdges, sizeOk, readSheet}
 use Rattle.sheet.specs.Writing.{writeSheet}
 use Rattle.sheet.specs.Valid.{valid}
@@ -88,12 +89,12 @@ primed-constant : readSheet (sheetWith "   1   4   4   1   1\n" "   2   4   1   
 unfolding open-all
 primed-constant = refl
 
--- form 3 at line 8 has no edge of form 0 beside it; of form 2 at line 8, line 6 would be the partner if it joined the same ends
+-- no edge of form 0 stands beside the edge of form 3 at line 8
 no-partner : readSheet (sheetWith "   1   4   4   1   1\n" "   2   4   1   0   0\n" "   3   3   4   3  11\n") ≡ refused (answer 21 8)
 unfolding open-all
 no-partner = refl
 
--- ends in the other order, and form 2 beside form 1: line 6 is the partner
+-- the edge of form 1 at line 6 is the partner of that of form 2 at line 8, whose ends stand in the other order
 partner : (readSheet (sheetWith "   1   4   4   1   1\n" "   2   4   1   0   0\n" "   3   3   2   2  11\n")) .answer ≡ answer 0 0
 unfolding open-all
 partner = refl
@@ -146,41 +147,43 @@ stray-vertex : valid (withVertices workedNet (set (workedNet .vertices) 4 (verte
 unfolding open-all workedNet
 stray-vertex = refl
 
--- ---- limits
+-- ---- limits: as many as are allowed, and one more
 
--- a storage vertex for each number, and an edge that has it as its symbol
 abbrev storages : ℕ → List Vertex
 storages zero = []
 storages (suc n) = vertex 1 0 ∷ storages n
 
+-- an edge for each of the n vertices from y on, with the vertex as its symbol
 abbrev loads : ℕ → ℕ → List Edge
 loads y zero = []
-loads y (suc n) = edge 1 y 0 (100 + y) ∷ loads (suc y) n
+loads y (suc n) = edge 1 y 0 (vertexBase + y) ∷ loads (suc y) n
 
--- one input vertex and n key nodes
+-- input vertex 1 and n key nodes, from vertex 2 on
 abbrev keyed : ℕ → Net
 keyed n = net (vertex 0 0 ∷ storages n) (loads 2 n) 0
 
-keys-12 : firstRow (graphRows (keyed 12)) ≡ none
+-- row 22 alone: to compute the signals of so many components takes seconds
+most-keys : keyPlace (keyed mostKeyNodes) ≡ none
 unfolding open-all
-keys-12 = refl
+most-keys = refl
 
-keys-13 : firstRow (graphRows (keyed 13)) ≡ some (answer 22 14)
+one-key-more : firstRow (graphRows (keyed (mostKeyNodes + 1))) ≡ some (answer 22 (mostKeyNodes + 2))
 unfolding open-all
-keys-13 = refl
+one-key-more = refl
 
+-- edges with the letters' symbols from s on
 abbrev lettered : ℕ → ℕ → List Edge
 lettered s zero = []
 lettered s (suc n) = edge 1 2 0 s ∷ lettered (suc s) n
 
--- one storage vertex with the edges of 8 letters, and the edges given
+-- storage vertex 2 with an edge for each letter, after the edges given
 abbrev signalled : List Edge → Net
-signalled es = net (vertex 0 0 ∷ vertex 1 0 ∷ []) (es ++ lettered 11 8) 8
+signalled es = net (vertex 0 0 ∷ vertex 1 0 ∷ []) (es ++ lettered (letterBase + 1) mostSignals) mostLetters
 
-signals-8 : firstRow (graphRows (signalled [])) ≡ none
+most-signals : firstRow (graphRows (signalled [])) ≡ none
 unfolding open-all
-signals-8 = refl
+most-signals = refl
 
-signals-9 : firstRow (graphRows (signalled (edge 2 1 0 102 ∷ []))) ≡ some (answer 23 2)
+one-signal-more : firstRow (graphRows (signalled (edge 2 1 0 (vertexBase + 2) ∷ []))) ≡ some (answer 23 2)
 unfolding open-all
-signals-9 = refl
+one-signal-more = refl

@@ -120,15 +120,16 @@ module _ (N : Net) where
 
       back : FirstUnpaired place → Option·map (edgePlace N) (leastBelow (N .«edge_count») (lacksPartner N)) ≡ some place
       back f =
-          map-eq-some-iff (edgePlace N) _ .1
-          (f .edge,
-          least-some (lacksPartner N) (N .«edge_count») (f .edge) .1
-          (record {
-            below = f .below;
-            passes = by-test (lacksPartner N (f .edge)) (λ t. t) (λ e. absurd (f .unpaired (paired-iff (f .edge) .0 e)));
-            earlier = λ i h. paired-iff i .1 (f .earlier i h);
-          }),
-          f .line)
+          map-eq-some-iff (edgePlace N) _ .1 (
+            f .edge,
+            least-some (lacksPartner N) (N .«edge_count») (f .edge) .1
+                (record {
+                  below = f .below;
+                  passes = by-test (lacksPartner N (f .edge)) (λ t. t) (λ e. absurd (f .unpaired (paired-iff (f .edge) .0 e)));
+                  earlier = λ i h. paired-iff i .1 (f .earlier i h);
+                }),
+            f .line,
+          )
 
   -- ---- 22: key nodes
 

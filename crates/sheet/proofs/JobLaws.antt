@@ -29,13 +29,10 @@ job-written A B q a b c =
     let small : SmallLine (line 4 A B q 0) = omega arith in
     rw (read-write-line (line 4 A B q 0) small, jobOf)
 
--- by `elim`, as `jobOf` has it: a definition by clauses compiles to another motive
+-- `jobOf`, once its line is read
 abbrev jobFrom : Option Line → JobLine
-jobFrom o =
-    elim o [
-      | none ↦ Refused
-      | some v ↦ cond (eqb (v .kind) 4 && eqb (v .fifth) 0) (Asked (v .second) (v .third) (v .fourth)) Refused
-    ]
+jobFrom none = Refused
+jobFrom (some v) = cond (eqb (v .kind) 4 && eqb (v .fifth) 0) (Asked (v .second) (v .third) (v .fourth)) Refused
 
 module _ (b : List ℕ) where
   pub job-asked : (A B q : ℕ) → (jobOf b ≡ Asked A B q) ↔ JobBytes b A B q

@@ -33,9 +33,9 @@ pub data Stepped (b : List ℕ) (j : ℕ) (N : Net) : Step → Type 0 where
       → Stepped b j N (next (withVertices N (set (N .vertices) j x)))
   edge : (e : Edge) → N .«vertex_count» ≤ j → writeLine (edgeLine e) ≡ b → edgeOk N e ≡ true
       → Stepped b j N (next (withEdges N (set (N .edges) (j - N .«vertex_count») e)))
-  no-fields : Stepped b j N (stop 12)
-  no-vertex : Stepped b j N (stop 15)
-  no-edge : Stepped b j N (stop 16)
+  not-fields : Stepped b j N (stop 12)
+  not-vertex : Stepped b j N (stop 15)
+  not-edge : Stepped b j N (stop 16)
 
 vertex-line : (N : Net) (j : ℕ) (v : Line) → vertexLineOk N j v ≡ true → vertexLine j (vertexOf v) ≡ v
 unfolding vertexLineOk
@@ -56,22 +56,22 @@ unfolding stepLine addLine vertexLineOk edgeLineOk
 stepped b j N = go (readLine b) refl
   where
     go : (o : Option Line) → readLine b ≡ o → Stepped b j N (stepLine o j N)
-    go none h = no-fields
+    go none h = not-fields
     go (some v) h =
         cond-by (Stepped b j N) (ltb j (N .«vertex_count»))
         (λ l. cond-by (Stepped b j N) (vertexLineOk N j v)
         (λ ok. vertex (vertexOf v) (ltb-true j _ l) (ap writeLine (vertex-line N j v ok) ∙ write-read-line b v h .written) (search ands))
-        (λ _. no-vertex))
+        (λ _. not-vertex))
         (λ l. cond-by (Stepped b j N) (edgeLineOk N v)
         (λ ok. edge (edgeOf v) (ltb-false j _ l) (ap writeLine (edge-line N v ok) ∙ write-read-line b v h .written) (search ands))
-        (λ _. no-edge))
+        (λ _. not-edge))
 
 -- ---- a refusal has a number, so no accepted sheet has one
 
 pub refused-zero : {a : Answer} {N : Net} → refused a ≡ accepted N → a .number ≡ 0
 refused-zero e = ap (λ (r : Reading). r .answer .number) e
 
--- by `elim`, as `readLines` has it: a definition by clauses compiles to another motive
+-- the rest of `readLines` after a step; an `elim` as there, since clauses would not be equal to it by computation
 abbrev pub afterStep : ℕ → List ℕ → ℕ → Step → Reading
 afterStep left rest j s = elim s [ next N ↦ readLines left rest (suc j) N | stop n ↦ refused (answer n (j + 2)) ]
 
@@ -99,9 +99,9 @@ module _ (left : ℕ) (rest : List ℕ) (j : ℕ) (N N₁ : Net) where
       go : {s : Step} → Stepped (take lineWidth rest) j N s → afterStep left (drop lineWidth rest) j s ≡ accepted N₁ → VertexRead
       go (vertex x h w ok) e = record { x = x; ok = ok; bytes = line-bytes (vertexLine j x) w; after = e }
       go (edge x h w ok) e = absurd (omega arith)
-      go no-fields e = absurd (omega (arith, refused-zero e))
-      go no-vertex e = absurd (omega (arith, refused-zero e))
-      go no-edge e = absurd (omega (arith, refused-zero e))
+      go not-fields e = absurd (omega (arith, refused-zero e))
+      go not-vertex e = absurd (omega (arith, refused-zero e))
+      go not-edge e = absurd (omega (arith, refused-zero e))
 
   pub edge-read : (k : ℕ) → j ≡ N .«vertex_count» + k → readLines (suc left) rest j N ≡ accepted N₁ → EdgeRead k
   unfolding readLines
@@ -112,9 +112,9 @@ module _ (left : ℕ) (rest : List ℕ) (j : ℕ) (N N₁ : Net) where
       go (edge x h w ok) e =
           let place : j - N .«vertex_count» ≡ k = omega arith in
           record { e = x; ok = ok; bytes = line-bytes (edgeLine x) w; after = rw place at e }
-      go no-fields e = absurd (omega (arith, refused-zero e))
-      go no-vertex e = absurd (omega (arith, refused-zero e))
-      go no-edge e = absurd (omega (arith, refused-zero e))
+      go not-fields e = absurd (omega (arith, refused-zero e))
+      go not-vertex e = absurd (omega (arith, refused-zero e))
+      go not-edge e = absurd (omega (arith, refused-zero e))
 
 -- ---- the end of the sheet
 

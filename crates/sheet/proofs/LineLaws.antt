@@ -61,7 +61,7 @@ module _ (w : ℕ) (b : List ℕ) where
   piece-rest : (i : ℕ) → piece i ++ drop (w * suc i) b ≡ drop (w * i) b
   piece-rest i = rw (mul-suc, ← (drop-drop w (w * i) b)) (take-append-drop w (drop (w * i) b))
 
-  pieces : piece 0 ++ piece 1 ++ piece 2 ++ piece 3 ++ piece 4 ++ drop (w * 5) b ≡ b
+  pieces : piece 0 ++ piece 1 ++ piece 2 ++ piece 3 ++ piece 4 ++ drop (w * fieldCount) b ≡ b
   pieces = simp append-assoc (rw (piece-rest 4, piece-rest 3, piece-rest 2, piece-rest 1, piece-rest 0, mul-zero))
 
 record Fields (p q r s t : Option ℕ) (v : Line) : Type 0 where

@@ -1,4 +1,4 @@
--- What a loop over the lines of a sheet cites. Its invariant: to read what is left, with the record so far, gives the whole answer,
+-- The steps of a loop over the lines of a sheet. Its invariant says that reading what is left into the record so far gives the whole answer:
 --     readLines (count - j) (drop at b) j N ≡ whole
 use Prim.Native.Nat.{ℕ, suc, _+_, _-_, _≤_, _<_}
 use native.Mathlib.Numerals.{add-one}

@@ -1,7 +1,7 @@
 -- Every sheet is accepted, or refused with the empty record, a number of document 01's table for sheets, and a place that this number can have.
 use Prim.Native.Nat.{ℕ, zero, suc, _+_, _/_, _≤_}
 use native.Mathlib.Omega.{arith}
-use mathlib.Core.Path.{_≡_}
+use mathlib.Core.Path.{_≡_, refl}
 use mathlib.Core.Bool.{true}
 use mathlib.Core.List.{List}
 use mathlib.Core.Option.{Option, none, some}
@@ -20,10 +20,12 @@ use Rattle.sheet.specs.Record.{startNet, refused, accepted}
 use Rattle.sheet.specs.Rules.{headerOk}
 use Rattle.sheet.specs.Graph.{graphRows}
 use Rattle.sheet.specs.Reading.{Step, conclude, readLines, sizeOk, readHeader, readSheet}
+use Rattle.sheet.specs.Valid.{valid}
 use Rattle.sheet.proofs.RowLaws.{RowsAnswer, nothing, found, rows-answer}
 use Rattle.sheet.proofs.RuleLaws.{Counts, counts-facts}
 use Rattle.sheet.proofs.GraphLaws.{partner-some, key-vertex, signal-vertex}
-use Rattle.sheet.proofs.LineInversion.{Stepped, vertex, edge, no-fields, no-vertex, no-edge, stepped, afterStep}
+use Rattle.sheet.proofs.LineInversion.{Stepped, vertex, edge, not-fields, not-vertex, not-edge, stepped, afterStep}
+use Rattle.sheet.proofs.ReadLaws.{read-valid}
 
 -- the numbers that a sheet can be refused with, each with its places: a line from 1, or a vertex
 pub data Listed : ℕ → ℕ → Type 0 where
@@ -68,9 +70,9 @@ lines-outcome (suc left) rest j N c h =
         → {s : Step} → Stepped (take lineWidth rest) j N s → Outcome (afterStep left (drop lineWidth rest) j s)
     go ih (vertex _ _ _ _) = ih _ c (omega arith)
     go ih (edge _ _ _ _) = ih _ c (omega arith)
-    go ih no-fields = refuse (fields (j + 2) (omega arith) (omega arith))
-    go ih no-vertex = refuse (vertex-line (j + 2) (omega arith) (omega arith))
-    go ih no-edge = refuse (edge-line (j + 2) (omega arith) (omega arith))
+    go ih not-fields = refuse (fields (j + 2) (omega arith) (omega arith))
+    go ih not-vertex = refuse (vertex-line (j + 2) (omega arith) (omega arith))
+    go ih not-edge = refuse (edge-line (j + 2) (omega arith) (omega arith))
 
 header-counts : (h : Line) → headerOk h ≡ true → Counts (h .second) (h .third) (h .fourth)
 unfolding headerOk
@@ -89,3 +91,26 @@ header-outcome b (some h) =
 pub outcome : (b : List ℕ) → Outcome (readSheet b)
 unfolding readSheet
 outcome b = cond-by Outcome (sizeOk (length b)) (λ _. header-outcome b (readLine (take lineWidth b))) (λ _. refuse size)
+
+-- ---- number 0 is for the accepted sheets
+
+listed-number : {n p : ℕ} → Listed n p → 11 ≤ n
+listed-number size = omega arith
+listed-number (fields _ _ _) = omega arith
+listed-number header = omega arith
+listed-number lines = omega arith
+listed-number (vertex-line _ _ _) = omega arith
+listed-number (edge-line _ _ _) = omega arith
+listed-number (partner _ _ _) = omega arith
+listed-number (key-nodes _ _ _) = omega arith
+listed-number (signals _ _ _) = omega arith
+
+pub accepted-at-zero : (b : List ℕ) → (readSheet b) .answer .number ≡ 0 → readSheet b ≡ accepted ((readSheet b) .net)
+accepted-at-zero b = go (outcome b)
+  where
+    go : {r : Reading} → Outcome r → r .answer .number ≡ 0 → r ≡ accepted (r .net)
+    go (accept N) e = refl
+    go (refuse l) e = absurd (omega (arith, listed-number l))
+
+pub valid-at-zero : (b : List ℕ) → (readSheet b) .answer .number ≡ 0 → valid ((readSheet b) .net) ≡ true
+valid-at-zero b e = read-valid b ((readSheet b) .net) (accepted-at-zero b e)

@@ -20,7 +20,7 @@ module _ {A : Type 0} (z : A) where
   drop-replicate (suc k) zero = rw zero-sub
   drop-replicate (suc k) (suc n) = rw suc-sub-suc (drop-replicate k n)
 
-  -- stored from place 0: the list, and zeros after it
+  -- what storing a list leaves: the list, then zeros
   stored : (n : ℕ) (xs : List A) → length xs ≤ n → sets (replicate n z) 0 xs ≡ xs ++ replicate (n - length xs) z
   stored n xs h =
       let fits : 0 + length xs ≤ length (replicate n z) = rw (zero-add, length-replicate) h in

@@ -96,7 +96,7 @@ empty : (l : List ℕ) → length l ≡ 0 → l ≡ []
 empty [] e = refl
 empty (x ∷ xs) e = absurd (omega arith)
 
--- the three parts of a sheet leave nothing over
+-- the lines counted in the header are the whole sheet
 nothing-over : (b : List ℕ) (h : Line) (xs : List Vertex) (es : List Edge) (more : List ℕ)
     → b ≡ writeLine h ++ (vertexLines 0 xs ++ (edgeLines es ++ more))
     → sizeOk (length b) ≡ true → length b / lineWidth ≡ 1 + length xs + length es → more ≡ []

@@ -35,7 +35,7 @@ counts-facts v e l h =
 
 -- ---- known symbols and labels are below the bound of symbols
 
-pub symbol-range : (N : Net) (s : ℕ) → knownSymbol N (decode s) ≡ true → s < symbolBound
+symbol-range : (N : Net) (s : ℕ) → knownSymbol N (decode s) ≡ true → s < symbolBound
 symbol-range N s =
     decode-by (λ x. knownSymbol N x ≡ true → s < symbolBound) s
     (λ h _. omega arith) (λ _ h _. omega arith) (λ _ h _. omega arith) (λ e. absurd (false≢true e))

@@ -96,7 +96,7 @@ length-edges (e ∷ es) =
     let ih = length-edges es in
     rw length-append (omega (arith, length-line (edgeLine e)))
 
--- what follows the header
+-- the lines below the header
 read-body : (N : Net) → Valid N
     → readLines (N .«vertex_count» + N .«edge_count»)
     (vertexLines 0 (take (N .«vertex_count») (N .vertices)) ++ edgeLines (take (N .«edge_count») (N .edges)))
