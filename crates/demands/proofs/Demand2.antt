@@ -45,12 +45,16 @@ module _ (sheet : List ℕ) (N : Net) (reads : readSheet sheet ≡ accepted N) w
 
   -- the excitation of one vertex, in every clean state
   pub demand2-excitation : (a q y : ℕ) → Clean N a q → isStorage N y ≡ true → (v : ℕ) × (excitedOf N a q y ≡ Value v) × ExcitationMeans N a q y v
-  demand2-excitation a q y c s = (excitation N a q y, excited-accepts N a q y ok c s, record {
-    zero = excitation-0 N a q y s;
-    one = excitation-1 N a q y s;
-    floating = excitation-3 N a q y s;
-    otherwise = excitation-2 N a q y s;
-  })
+  demand2-excitation a q y c s = (
+    excitation N a q y,
+    excited-accepts N a q y ok c s,
+    record {
+      zero = excitation-0 N a q y s;
+      one = excitation-1 N a q y s;
+      floating = excitation-3 N a q y s;
+      otherwise = excitation-2 N a q y s;
+    },
+  )
 
   -- the verdict: 0 exactly if C1 to C3 hold over all clean states
   pub demand2-well-formed : (verdictOf N .number ≡ 0) ↔ WellFormed N

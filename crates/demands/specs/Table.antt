@@ -35,8 +35,8 @@ answerTo (settling sheet job) =
     let lent = replicate (keyCount N) untouched in
     elim (jobOf job) [
       | Asked A B q ↦
-        let s = settleOf N A B q lent lent in
-        s .answer .number ∷ s .answer .«first_steps» ∷ s .answer .«second_steps» ∷ (s .r ++ s .t)
+          let s = settleOf N A B q lent lent in
+          s .answer .number ∷ s .answer .«first_steps» ∷ s .answer .«second_steps» ∷ (s .r ++ s .t)
       | Refused ↦ jobNumber Refused ∷ 0 ∷ 0 ∷ (lent ++ lent)
     ]
 answerTo (exciting sheet a q y) = valueLine (excitedOf (readSheet sheet .net) a q y)

@@ -29,8 +29,11 @@ pub struct Net {
 
 impl Net {
     pub const MOST_VERTICES: usize = 96;
+
     pub const MOST_EDGES: usize = 192;
+
     pub const MOST_LETTERS: usize = 8;
+
     pub const MOST_KEY_NODES: usize = 12;
     // Of one component.
     pub const MOST_SIGNALS: usize = 8;
@@ -47,6 +50,7 @@ pub enum Symbol {
 impl Symbol {
     // Letter j has the number LETTERS + j, and vertex v the number VERTICES + v.
     pub const LETTERS: u16 = 10;
+
     pub const VERTICES: u16 = 100;
 }
 

@@ -3,7 +3,6 @@
 
 ghost use mathlib.Core.Path.{_≡_};
 ghost use Rattle.sheet.specs.Limits.{widths};
-
 use net::Net;
 
 // Lines of five fields, four columns each, ended by byte 10.
@@ -11,7 +10,9 @@ pub struct Sheet;
 
 impl Sheet {
     pub const FIELD_WIDTH: usize = 4;
+
     pub const FIELDS: usize = 5;
+
     pub const LINE_WIDTH: usize = Sheet::FIELD_WIDTH * Sheet::FIELDS + 1;
     // A header, and a line for each vertex and each edge.
     pub const MOST_BYTES: usize = Sheet::LINE_WIDTH * (1 + Net::MOST_VERTICES + Net::MOST_EDGES);
