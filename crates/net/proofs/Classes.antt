@@ -15,7 +15,7 @@ use Rattle.net.specs.declared.Edge.{Edge}
 use Rattle.net.specs.declared.Net.{Net}
 use Rattle.net.specs.Graph.{edgeAt, hasRole, isStorage}
 use Rattle.net.specs.Walks.{Joins}
-use Rattle.net.specs.Classes.{relabel, merge, inner, labels}
+use Rattle.net.specs.Classes.{relabel, merge, classes, inner, labels}
 use Rattle.ternary.proofs.Tests.{ands, or-true, test}
 use Rattle.ternary.proofs.ListLaws.{length-table, getD-table, below-cases}
 
@@ -92,15 +92,15 @@ module _ (N : Net) (on : ℕ → Bool) where
 
   -- one edge of the loop
   pub labels-merged : (n : ℕ) → Inner n → labels N on (suc n) ≡ merge ((edgeAt N n) .end1) ((edgeAt N n) .end2) (labels N on n)
-  unfolding labels
+  unfolding labels classes
   labels-merged n h = rw h
 
   pub labels-kept : (n : ℕ) → (on n && inner N (edgeAt N n)) ≡ false → labels N on (suc n) ≡ labels N on n
-  unfolding labels
+  unfolding labels classes
   labels-kept n h = rw h
 
   length-labels : (n : ℕ) → length (labels N on n) ≡ suc (N .«vertex_count»)
-  unfolding labels merge
+  unfolding labels classes merge
   length-labels zero = length-table (suc (N .«vertex_count»)) (λ v. v)
   length-labels (suc n) = go (length-labels n) (test (on n && inner N (edgeAt N n)))
     where
@@ -109,16 +109,16 @@ module _ (N : Net) (on : ℕ → Bool) where
       go ih (inr h) = rw h ih
 
   label-zero : (v : ℕ) → InRange v → label 0 v ≡ v
-  unfolding labels
+  unfolding labels classes
   label-zero v h = getD-table (suc (N .«vertex_count»)) (λ v. v) v 0 h
 
   -- merged: the class of the second end takes the first end's label
   merged : (n v : ℕ) → Inner n → InRange v → label (suc n) v ≡ relabel (label n ((edgeAt N n) .end1)) (label n ((edgeAt N n) .end2)) (label n v)
-  unfolding labels merge
+  unfolding labels classes merge
   merged n v i h = rw i (getD-map-lt _ (labels N on n) v (rw length-labels h))
 
   kept : (n v : ℕ) → (on n && inner N (edgeAt N n)) ≡ false → label (suc n) v ≡ label n v
-  unfolding labels
+  unfolding labels classes
   kept n v i = rw i
 
   -- once equal, labels stay equal

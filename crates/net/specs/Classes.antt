@@ -16,17 +16,20 @@ relabel new old l = cond (eqb l old) new l
 unfoldable pub merge : ℕ → ℕ → List ℕ → List ℕ
 merge u v t = map (relabel (getD t u 0) (getD t v 0)) t
 
+-- the class labels of the numbers below m after the first n edges: edge i joins u i and v i, if it counts
+unfoldable pub classes : ℕ → (ℕ → ℕ) → (ℕ → ℕ) → (ℕ → Bool) → ℕ → List ℕ
+classes m u v on zero = table m (λ x. x)
+classes m u v on (suc n) =
+    let t = classes m u v on n in
+    cond (on n) (merge (u n) (v n) t) t
+
 -- both ends of e are storage vertices
 unfoldable pub inner : Net → Edge → Bool
 inner N e = isStorage N (e .end1) && isStorage N (e .end2)
 
--- the label of each vertex after the first n edges, vertex v at index v
+-- the label of each vertex after the first n edges, vertex v at index v: an edge counts if it passes `on` and joins storage vertices
 unfoldable pub labels : Net → (ℕ → Bool) → ℕ → List ℕ
-labels N on zero = table (suc (N .«vertex_count»)) (λ v. v)
-labels N on (suc n) =
-    let t = labels N on n in
-    let e = edgeAt N n in
-    cond (on n && inner N e) (merge (e .end1) (e .end2) t) t
+labels N on n = classes (suc (N .«vertex_count»)) (λ i. (edgeAt N i) .end1) (λ i. (edgeAt N i) .end2) (λ i. on i && inner N (edgeAt N i)) n
 
 unfoldable pub sameLabel : List ℕ → ℕ → ℕ → Bool
 sameLabel t u v = eqb (getD t u 0) (getD t v 0)

@@ -12,7 +12,8 @@ use Rattle.ternary.proofs.Tests.{ands, cond-by}
 use Rattle.sheet.specs.declared.JobLine.{JobLine}
 use Rattle.sheet.specs.declared.JobLine.the-variants.{Asked, Refused}
 use Rattle.sheet.specs.Limits.{fieldWidth}
-use Rattle.sheet.specs.Line.{Line, line, writeLine, readLine}
+use Rattle.sheet.specs.declared.Line.{Line}
+use Rattle.sheet.specs.Line.{line, writeLine, readLine}
 use Rattle.sheet.specs.Job.{jobOf, jobNumber}
 use Rattle.sheet.proofs.LineLaws.{SmallLine, read-write-line, write-read-line}
 

@@ -15,7 +15,8 @@ use Rattle.ternary.proofs.Tests.{ands, cond-by}
 use Rattle.sheet.specs.declared.Answer.{Answer}
 use Rattle.sheet.specs.declared.Reading.{Reading}
 use Rattle.sheet.specs.Limits.{lineWidth}
-use Rattle.sheet.specs.Line.{Line, readLine, writeLine}
+use Rattle.sheet.specs.declared.Line.{Line}
+use Rattle.sheet.specs.Line.{readLine, writeLine}
 use Rattle.sheet.specs.Rows.{answer, firstRow, answered}
 use Rattle.sheet.specs.Record.{refused, accepted}
 use Rattle.sheet.specs.Rules.{vertexOk, edgeOk}

@@ -15,7 +15,8 @@ use Rattle.ternary.proofs.Tests.{ands, both, cond-by, fails}
 use Rattle.ternary.proofs.ListLaws.{same-true}
 use Rattle.sheet.specs.Limits.{fieldWidth, fieldCount, lineWidth, lineEnd}
 use Rattle.sheet.specs.Field.{writeField}
-use Rattle.sheet.specs.Line.{Line, line, writeLine, fieldAt, fiveFields, readLine, hasLine, sheetLine, lineNumber}
+use Rattle.sheet.specs.declared.Line.{Line}
+use Rattle.sheet.specs.Line.{line, writeLine, fieldAt, fiveFields, readLine, hasLine, sheetLine, lineNumber}
 use Rattle.sheet.proofs.FieldLaws.{read-write-field, write-read-field}
 
 -- every number fits its field

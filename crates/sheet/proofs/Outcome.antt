@@ -13,7 +13,8 @@ use Rattle.ternary.proofs.Tests.{ands, cond-by}
 use Rattle.sheet.specs.declared.Answer.{Answer}
 use Rattle.sheet.specs.declared.Reading.{Reading}
 use Rattle.sheet.specs.Limits.{lineWidth, mostLines}
-use Rattle.sheet.specs.Line.{Line, readLine}
+use Rattle.sheet.specs.declared.Line.{Line}
+use Rattle.sheet.specs.Line.{readLine}
 use Rattle.sheet.specs.Rows.{answer, firstRow, First}
 use Rattle.sheet.specs.Rows.First.{here, later}
 use Rattle.sheet.specs.Record.{startNet, refused, accepted}

@@ -16,7 +16,8 @@ use Rattle.net.specs.Limits.{mostVertices, mostEdges}
 use Rattle.net.specs.Graph.{noVertex, noEdge, vertexAt, hasRole, isStorage}
 use Rattle.ternary.proofs.Tests.{ands}
 use Rattle.sheet.specs.Limits.{lineWidth, mostLines, mostBytes}
-use Rattle.sheet.specs.Line.{Line, readLine, writeLine}
+use Rattle.sheet.specs.declared.Line.{Line}
+use Rattle.sheet.specs.Line.{readLine, writeLine}
 use Rattle.sheet.specs.Rows.{firstRow}
 use Rattle.sheet.specs.Record.{startNet, accepted}
 use Rattle.sheet.specs.Rules.{headerOk, vertexOk, symbolOk, edgeOk}

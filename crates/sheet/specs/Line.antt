@@ -6,16 +6,9 @@ use mathlib.Core.Option.{Option, none, some}
 use lib.Dec.{leb}
 use lib.ListN.{length, take, drop}
 use Rattle.ternary.specs.Lists.{same}
+use Rattle.sheet.specs.declared.Line.{Line}
 use Rattle.sheet.specs.Limits.{fieldWidth, fieldCount, lineWidth, lineEnd}
 use Rattle.sheet.specs.Field.{writeField, readField}
-
--- the five numbers of a line; the first says of what kind the line is
-pub record Line : Type 0 where
-  pub kind : ℕ
-  pub second : ℕ
-  pub third : ℕ
-  pub fourth : ℕ
-  pub fifth : ℕ
 
 abbrev pub line : ℕ → ℕ → ℕ → ℕ → ℕ → Line
 line a b c d e = record { kind = a; second = b; third = c; fourth = d; fifth = e }

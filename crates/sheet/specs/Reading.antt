@@ -11,7 +11,8 @@ use Rattle.net.specs.declared.Net.{Net}
 use Rattle.sheet.specs.declared.Answer.{Answer}
 use Rattle.sheet.specs.declared.Reading.{Reading}
 use Rattle.sheet.specs.Limits.{lineWidth, mostBytes}
-use Rattle.sheet.specs.Line.{Line, readLine}
+use Rattle.sheet.specs.declared.Line.{Line}
+use Rattle.sheet.specs.Line.{readLine}
 use Rattle.sheet.specs.Rows.{answer, firstRow}
 use Rattle.sheet.specs.Record.{startNet, refused, accepted}
 use Rattle.sheet.specs.Rules.{headerOk, vertexOk, edgeOk}

@@ -8,7 +8,7 @@ use Rattle.net.specs.Known.{knownSymbol, knownLabel}
 use Rattle.net.specs.declared.Vertex.{Vertex}
 use Rattle.net.specs.declared.Edge.{Edge}
 use Rattle.net.specs.declared.Net.{Net}
-use Rattle.sheet.specs.Line.{Line}
+use Rattle.sheet.specs.declared.Line.{Line}
 
 -- at least one vertex, and no count above its limit
 unfoldable pub countsOk : ℕ → ℕ → ℕ → Bool

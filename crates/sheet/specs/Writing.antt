@@ -5,7 +5,8 @@ use lib.ListN.{take}
 use Rattle.net.specs.declared.Vertex.{Vertex}
 use Rattle.net.specs.declared.Edge.{Edge}
 use Rattle.net.specs.declared.Net.{Net}
-use Rattle.sheet.specs.Line.{Line, line, writeLine}
+use Rattle.sheet.specs.declared.Line.{Line}
+use Rattle.sheet.specs.Line.{line, writeLine}
 
 abbrev pub headerLine : Net → Line
 headerLine N = line 1 (N .«vertex_count») (N .«edge_count») (N .«letter_count») 1

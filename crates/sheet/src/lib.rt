@@ -18,6 +18,15 @@ impl Sheet {
     pub const MOST_BYTES: usize = Sheet::LINE_WIDTH * (1 + Net::MOST_VERTICES + Net::MOST_EDGES);
 }
 
+// The five numbers of a line; the first says of what kind the line is.
+pub struct Line {
+    pub kind: u16,
+    pub second: u16,
+    pub third: u16,
+    pub fourth: u16,
+    pub fifth: u16,
+}
+
 // An answer is 0 or a number of document 01, with a place.
 pub struct Answer {
     pub number: u8,
