@@ -21,7 +21,7 @@ pub record Link (N : Net) (on : ℕ → Bool) (u v : ℕ) : Type 0 where
   pub passes : on index ≡ true
   pub joins : Joins (edgeAt N index) u v
 
--- at least one edge, each passing `on`; the inner vertices are storage vertices
+-- at least one edge, each passing `on`; the inner vertices are storage vertices. A walk may come back to a vertex: it leads where a path leads.
 pub data Walk (N : Net) (on : ℕ → Bool) : ℕ → ℕ → Type 0 where
   edge : {u v : ℕ} → Link N on u v → Walk N on u v
   via : {u w v : ℕ} → Link N on u w → isStorage N w ≡ true → Walk N on w v → Walk N on u v
