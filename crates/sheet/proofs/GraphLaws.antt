@@ -1,7 +1,7 @@
 -- What the rows over the graph say: partners (21), key nodes (22) and signals (23), each where it is silent and where it gives a place.
-use Prim.Native.Nat.{ℕ, suc, _-_, _≤_, _<_}
+use Prim.Native.Nat.{ℕ, suc, _+_, _-_, _≤_, _<_}
 use native.Mathlib.Omega.{arith}
-use mathlib.Core.Path.{_≡_}
+use mathlib.Core.Path.{_≡_, ap}
 use mathlib.Core.Logic.{inl, inr, ⊎-elim, _↔_}
 use mathlib.Core.Bool.{Bool, true, false, not, _&&_}
 use mathlib.Core.Option.{none, some, Option·map, map-eq-none-iff, map-eq-some-iff}
@@ -18,10 +18,11 @@ use Rattle.net.proofs.Keys.{key-at, key-storage}
 use Rattle.ternary.specs.Lists.{anyBelow, leastBelow}
 use Rattle.ternary.proofs.Tests.{ands, both, or-true, or-left, or-right, fails, not-both, by-test}
 use Rattle.ternary.proofs.ListLaws.{any-found, any-of, least-none, least-some, least-none-iff, least-some-iff}
+use Rattle.sheet.specs.declared.graph.Found.the-variants.{At, Nothing}
 use Rattle.sheet.specs.Rows.{firstRow, NoRow}
 use Rattle.sheet.specs.Rows.NoRow.{end, next}
 use Rattle.sheet.specs.Rules.{primed}
-use Rattle.sheet.specs.Graph.{isPartner, lacksPartner, edgePlace, partnerPlace, keyPlace, overSignals, signalPlace, graphRows}
+use Rattle.sheet.specs.Graph.{isPartner, lacksPartner, edgePlace, partnerPlace, keyPlace, overSignals, signalPlace, graphRows, foundOf}
 use Rattle.sheet.proofs.Places.{get-none, get-some}
 use Rattle.sheet.proofs.RowLaws.{first-none}
 
@@ -202,3 +203,14 @@ module _ (N : Net) where
 
   pub signal-vertex : (place : ℕ) → signalPlace N ≡ some place → VertexPlace place
   signal-vertex place e = storage-place place (signal-some place .0 e .0 .storage)
+
+-- ---- what the code answers for a row's place, where its loop has found one and where it has found none
+
+pub partner-found : (N : Net) (i : ℕ) → leastBelow (N .«edge_count») (lacksPartner N) ≡ some i → At (N .«vertex_count» + 2 + i) ≡ foundOf (partnerPlace N)
+unfolding partnerPlace
+partner-found N i e = rw e (ap At (omega arith))
+
+pub partner-missing : (N : Net) → leastBelow (N .«edge_count») (lacksPartner N) ≡ none → Nothing ≡ foundOf (partnerPlace N)
+unfolding partnerPlace
+partner-missing N e = rw e
+

@@ -2,7 +2,7 @@
 use Prim.Native.Nat.{ℕ, suc, _+_, _-_}
 use mathlib.Core.Bool.{Bool, not, _&&_, _||_}
 use mathlib.Core.List.{List, [], _∷_}
-use mathlib.Core.Option.{Option, Option·map}
+use mathlib.Core.Option.{Option, none, some, Option·map}
 use lib.Dec.{ltb, eqb}
 use lib.ListN.{getElem?}
 use Rattle.ternary.specs.Lists.{anyBelow, leastBelow}
@@ -11,6 +11,8 @@ use Rattle.net.specs.Graph.{edgeAt, isStorage, keys}
 use Rattle.net.specs.SignalTable.{signalCount}
 use Rattle.net.specs.declared.Edge.{Edge}
 use Rattle.net.specs.declared.Net.{Net}
+use Rattle.sheet.specs.declared.graph.Found.{Found}
+use Rattle.sheet.specs.declared.graph.Found.the-variants.{At, Nothing}
 use Rattle.sheet.specs.Rows.{Row, row}
 use Rattle.sheet.specs.Rules.{primed}
 
@@ -47,3 +49,8 @@ signalPlace N = leastBelow (suc (N .«vertex_count»)) (overSignals N)
 
 unfoldable pub graphRows : Net → List Row
 graphRows N = row 21 (partnerPlace N) ∷ row 22 (keyPlace N) ∷ row 23 (signalPlace N) ∷ []
+
+-- the code's answer for a place that may be missing
+abbrev pub foundOf : Option ℕ → Found
+foundOf none = Nothing
+foundOf (some p) = At p

@@ -3,6 +3,8 @@
 
 ghost use mathlib.Core.Path.{_≡_};
 ghost use Rattle.sheet.specs.Limits.{widths};
+pub mod graph;
+
 use net::Net;
 
 // Lines of five fields, four columns each, ended by byte 10.

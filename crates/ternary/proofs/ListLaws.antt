@@ -6,6 +6,7 @@ use mathlib.Core.Logic.{_⊎_, inl, inr, ⊎-elim, _↔_, _≢_}
 use mathlib.Core.List.{List, [], _∷_, _++_, List·Memᴰ, List·Memᴰ·head, List·Memᴰ·not-nil, List·Memᴰ·append-cases, List·Memᴰ·eq-of-singleton, Memᴰ·append-left, Memᴰ·append-right}
 use mathlib.Core.Option.{Option, none, some}
 use native.Mathlib.Nat.{not-suc-le-zero, le-of-suc-le-suc}
+use native.Mathlib.Numerals.{add-one}
 use native.Mathlib.Omega.{arith}
 use native.Mathlib.Decide.{ℕ-discrete, le-ind}
 use lib.Dec.{eqb, ltb}
@@ -89,6 +90,11 @@ module _ (p : ℕ → Bool) where
   pub any-none : (n : ℕ) → anyBelow n p ≡ false → (i : ℕ) → i < n → p i ≡ false
   any-none n e i h = fails (p i) (λ t. not-both (anyBelow n p) (any-of n i h t) e)
 
+  -- one number more, for a loop that has found none so far
+  pub any-more : (n : ℕ) → anyBelow n p ≡ false → p n ≡ false → anyBelow (n + 1) p ≡ false
+  unfolding anyBelow
+  any-more n e f = rw (add-one, anyBelow, e, f)
+
   pub all-at : (n : ℕ) → allBelow n p ≡ true → (i : ℕ) → i < n → p i ≡ true
   unfolding allBelow
   all-at zero e i h = absurd (not-suc-le-zero h)
@@ -166,6 +172,14 @@ module _ (p : ℕ → Bool) where
       back : {o : Option ℕ} → LeastIs n o → Least n k → o ≡ some k
       back (nothing f) m = absurd (not-both (p k) (m .passes) (f k (m .below)))
       back (found {k = j} l) m = ap some (only j l m)
+
+  -- one number more, and a hit, for a loop that has found none so far
+  pub least-more : (n : ℕ) → leastBelow n p ≡ none → p n ≡ false → leastBelow (n + 1) p ≡ none
+  unfolding leastBelow
+  least-more n e f = rw (add-one, leastBelow, e, f)
+
+  pub least-hit : (n k : ℕ) → leastBelow k p ≡ none → k < n → p k ≡ true → leastBelow n p ≡ some k
+  least-hit n k e h t = least-some n k .1 (record { below = h; passes = t; earlier = least-none k .0 e })
 
   -- ---- the list of the numbers that pass
 
