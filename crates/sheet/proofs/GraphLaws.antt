@@ -213,4 +213,3 @@ partner-found N i e = rw e (ap At (omega arith))
 pub partner-missing : (N : Net) → leastBelow (N .«edge_count») (lacksPartner N) ≡ none → Nothing ≡ foundOf (partnerPlace N)
 unfolding partnerPlace
 partner-missing N e = rw e
-

@@ -5,6 +5,7 @@ pub mod RowLaws
 pub mod RuleLaws
 pub mod Places
 pub mod GraphLaws
+pub mod AllLaws
 pub mod Validity
 pub mod WriteLaws
 pub mod LineInversion

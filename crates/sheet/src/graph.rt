@@ -1,32 +1,20 @@
 // The rows over the whole graph: partners, key nodes and the signals of a component.
 
 ghost use mathlib.Core.Path.{_≡_};
-ghost use mathlib.Core.Bool.{_&&_, _||_};
 ghost use Prim.Native.Nat.{ℕ, _≤_, _<_};
 ghost use Rattle.ternary.specs.Lists.{anyBelow};
 ghost use Rattle.net.specs.Limits.{mostEdges};
 ghost use Rattle.net.specs.Graph.{edgeAt};
 ghost use Rattle.sheet.specs.Graph.{isPartner, lacksPartner, partnerPlace, foundOf};
-
-use net::{Edge, Net};
+use crate::tests::both;
+use crate::tests::either;
+use net::Edge;
+use net::Net;
 
 // The place of a row, if its condition holds.
 pub enum Found {
     At(u16),
     Nothing,
-}
-
-// Two tests as one, without a branch in the caller.
-fn both(a: bool, b: bool) -> bool
-    ensures { λ r. ⌜ r ≡ (a && b) ⌝ }
-{
-    if a { b } else { false }
-}
-
-fn either(a: bool, b: bool) -> bool
-    ensures { λ r. ⌜ r ≡ (a || b) ⌝ }
-{
-    if a { true } else { b }
 }
 
 // Is f parallel to e, with the same symbol and the form that e's primed form needs?

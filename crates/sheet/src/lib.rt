@@ -3,7 +3,11 @@
 
 ghost use mathlib.Core.Path.{_≡_};
 ghost use Rattle.sheet.specs.Limits.{widths};
+
 pub mod graph;
+pub mod reader;
+pub mod record;
+pub mod tests;
 
 use net::Net;
 

@@ -1,0 +1,25 @@
+-- A loop that tests the elements of a list from one place on: what is left has passed or failed as the whole has. Over any element type.
+use Prim.Native.Nat.{ℕ, _+_, _≤_, _<_}
+use native.Mathlib.Numerals.{add-one}
+use mathlib.Core.Path.{_≡_, refl, ap, _∙_}
+use mathlib.Core.Bool.{Bool, true, false}
+use mathlib.Core.List.{List, []}
+use lib.ListN.{length, drop, getD, drop-of-length-le}
+use lib.Seq.{drop-cons}
+use Rattle.sheet.specs.Valid.{allOf}
+
+module _ {A : Type 0} (p : A → Bool) (l : List A) (i : ℕ) where
+  -- the element at i passes
+  pub all-on : (d : A) → i < length l → p (getD l i d) ≡ true → allOf p (drop (i + 1) l) ≡ allOf p (drop i l)
+  unfolding allOf
+  all-on d h t = rw (add-one, drop-cons l i d h, t)
+
+  -- it fails
+  pub all-stop : (d : A) → i < length l → p (getD l i d) ≡ false → allOf p (drop i l) ≡ false
+  unfolding allOf
+  all-stop d h t = rw (drop-cons l i d h, t)
+
+  -- none is left
+  pub all-end : length l ≤ i → allOf p (drop i l) ≡ true
+  unfolding allOf
+  all-end h = rw (drop-of-length-le l h)

@@ -1,0 +1,56 @@
+// The record test: is a record one that some accepted sheet gives?
+
+ghost use mathlib.Core.Path.{_≡_};
+ghost use Prim.Native.Nat.{_≤_};
+ghost use lib.ListN.{drop};
+ghost use Rattle.net.specs.Limits.{mostVertices, mostEdges};
+ghost use Rattle.sheet.specs.Valid.{allOf, isNoVertex, isNoEdge};
+use crate::tests::both;
+use net::Edge;
+use net::Net;
+use net::Vertex;
+
+pub fn is_no_vertex(x: Vertex) -> bool
+    ensures { λ r. ⌜ r ≡ isNoVertex x ⌝ }
+{
+    both(x.role == 0, x.label == 0)
+}
+
+pub fn is_no_edge(e: Edge) -> bool
+    ensures { λ r. ⌜ r ≡ isNoEdge e ⌝ }
+{
+    both(
+        both(both(e.end1 == 0, e.end2 == 0), e.form == 0),
+        e.symbol == 0,
+    )
+}
+
+// Are the vertex places beyond those in use zero?
+pub fn spare_vertices_zero(net: Net) -> bool
+    requires { ⌜ net .«vertex_count» ≤ mostVertices ⌝ }
+    ensures { λ r. ⌜ r ≡ allOf isNoVertex (drop (net .«vertex_count») (net .vertices)) ⌝ }
+{
+    let mut i = net.vertex_count as usize;
+    while i < Net::MOST_VERTICES {
+        if !is_no_vertex(net.vertices[i]) {
+            return false;
+        }
+        i += 1;
+    }
+    true
+}
+
+// Are the edge places beyond those in use zero?
+pub fn spare_edges_zero(net: Net) -> bool
+    requires { ⌜ net .«edge_count» ≤ mostEdges ⌝ }
+    ensures { λ r. ⌜ r ≡ allOf isNoEdge (drop (net .«edge_count») (net .edges)) ⌝ }
+{
+    let mut i = net.edge_count as usize;
+    while i < Net::MOST_EDGES {
+        if !is_no_edge(net.edges[i]) {
+            return false;
+        }
+        i += 1;
+    }
+    true
+}
