@@ -11,6 +11,7 @@ pub mod WriteLaws
 pub mod LineInversion
 pub mod BodyInversion
 pub mod ReadLaws
+pub mod Progress
 pub mod LoopLaws
 pub mod Outcome
 pub mod Known

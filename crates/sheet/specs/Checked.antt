@@ -1,0 +1,12 @@
+-- What the rows over the graph may count on: the counts are within their limits, and every vertex and edge in use has values that are allowed.
+use Prim.Native.Nat.{ℕ, _≤_, _<_}
+use mathlib.Core.Bool.{true}
+use mathlib.Core.Path.{_≡_}
+use Rattle.net.specs.declared.Net.{Net}
+use Rattle.net.specs.Graph.{vertexAt, edgeAt}
+use Rattle.sheet.specs.Rules.{countsOk, vertexOk, edgeOk}
+
+pub record Checked (N : Net) : Type 0 where
+  pub counts : countsOk (N .«vertex_count») (N .«edge_count») (N .«letter_count») ≡ true
+  pub vertices : (v : ℕ) → 1 ≤ v → v ≤ N .«vertex_count» → vertexOk N (vertexAt N v) ≡ true
+  pub edges : (i : ℕ) → i < N .«edge_count» → edgeOk N (edgeAt N i) ≡ true
