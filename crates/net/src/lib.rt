@@ -1,6 +1,8 @@
 //! The record of a net, the report's CMOS graph: its vertices, its edges and how many letters it has.
 //! What a net means stands in specs/, the laws of it in proofs/.
 
+pub mod symbols;
+
 ghost use mathlib.Core.Path.{_≡_};
 ghost use Rattle.net.specs.Limits.{limits};
 
@@ -52,6 +54,16 @@ impl Symbol {
     pub const LETTERS: u16 = 10;
 
     pub const VERTICES: u16 = 100;
+
+    pub const LAST_CONSTANT: u16 = 1;
+
+    pub const FIRST_LETTER: u16 = Symbol::LETTERS + 1;
+
+    pub const LAST_LETTER: u16 = Symbol::LETTERS + Net::MOST_LETTERS as u16;
+
+    pub const FIRST_VERTEX: u16 = Symbol::VERTICES + 1;
+
+    pub const LAST_VERTEX: u16 = Symbol::VERTICES + Net::MOST_VERTICES as u16;
 }
 
 // The condition of an edge under a state.
