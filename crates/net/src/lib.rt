@@ -2,6 +2,7 @@
 //! What a net means stands in specs/, the laws of it in proofs/.
 
 pub mod symbols;
+pub mod walk;
 
 ghost use mathlib.Core.Path.{_≡_};
 ghost use Rattle.net.specs.Limits.{limits};
@@ -35,6 +36,9 @@ impl Net {
     pub const MOST_EDGES: usize = 192;
 
     pub const MOST_LETTERS: usize = 8;
+
+    // A table with an entry for each vertex number, from 0.
+    pub const VERTEX_PLACES: usize = Net::MOST_VERTICES + 1;
 
     pub const MOST_KEY_NODES: usize = 12;
     // Of one component.
