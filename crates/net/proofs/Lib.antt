@@ -4,6 +4,8 @@ pub mod Nands
 pub mod Values
 pub mod Cases
 pub mod Classes
+pub mod Filling
+pub mod ClassTables
 pub mod Reach
 pub mod Connected
 pub mod Fights

@@ -8,6 +8,7 @@ pub mod Classes
 pub mod Excitation
 pub mod Component
 pub mod SignalTable
+pub mod Tables
 pub mod Network
 pub mod WellFormed
 pub mod Ternary

@@ -1,6 +1,9 @@
 //! The record of a net, the report's CMOS graph: its vertices, its edges and how many letters it has.
 //! What a net means stands in specs/, the laws of it in proofs/.
 
+pub mod symbols;
+pub mod walk;
+
 ghost use mathlib.Core.Path.{_≡_};
 ghost use Rattle.net.specs.Limits.{limits};
 
@@ -34,6 +37,9 @@ impl Net {
 
     pub const MOST_LETTERS: usize = 8;
 
+    // A table with an entry for each vertex number, from 0.
+    pub const VERTEX_PLACES: usize = Net::MOST_VERTICES + 1;
+
     pub const MOST_KEY_NODES: usize = 12;
     // Of one component.
     pub const MOST_SIGNALS: usize = 8;
@@ -52,6 +58,16 @@ impl Symbol {
     pub const LETTERS: u16 = 10;
 
     pub const VERTICES: u16 = 100;
+
+    pub const LAST_CONSTANT: u16 = 1;
+
+    pub const FIRST_LETTER: u16 = Symbol::LETTERS + 1;
+
+    pub const LAST_LETTER: u16 = Symbol::LETTERS + Net::MOST_LETTERS as u16;
+
+    pub const FIRST_VERTEX: u16 = Symbol::VERTICES + 1;
+
+    pub const LAST_VERTEX: u16 = Symbol::VERTICES + Net::MOST_VERTICES as u16;
 }
 
 // The condition of an edge under a state.

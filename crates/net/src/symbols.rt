@@ -1,0 +1,51 @@
+//! Symbols by their numbers, and the conditions of edges.
+use crate::Condition;
+use crate::Symbol;
+ghost use mathlib.Core.Path.{_≡_};
+ghost use Rattle.net.specs.State.{conditionOf};
+ghost use Rattle.net.specs.Symbols.{decode};
+
+// The symbol that a number stands for.
+pub fn decoded(number: u16) -> Symbol
+    ensures { λ r. ⌜ r ≡ decode number ⌝ }
+{
+    match number {
+        0..=Symbol::LAST_CONSTANT => Symbol::Constant(number as u8),
+        Symbol::FIRST_LETTER..=Symbol::LAST_LETTER => Symbol::Letter(
+            (number - Symbol::LETTERS) as u8,
+        ),
+        Symbol::FIRST_VERTEX..=Symbol::LAST_VERTEX => Symbol::Vertex(
+            (number - Symbol::VERTICES) as u8,
+        ),
+        _ => Symbol::Unknown,
+    }
+}
+
+// The condition of an edge of a form whose symbol has a value: forms 0 and 3 close at 1, forms 1 and 2 at 0.
+pub fn condition_of(form: u8, value: u8) -> Condition
+    ensures { λ r. ⌜ r ≡ conditionOf form value ⌝ }
+{
+    match form {
+        0 => if value == 1 {
+            Condition::NClosed
+        } else {
+            Condition::Open
+        },
+        1 => if value == 0 {
+            Condition::PClosed
+        } else {
+            Condition::Open
+        },
+        2 => if value == 0 {
+            Condition::NClosed
+        } else {
+            Condition::Open
+        },
+        3 => if value == 1 {
+            Condition::PClosed
+        } else {
+            Condition::Open
+        },
+        _ => Condition::Open,
+    }
+}
