@@ -1,5 +1,6 @@
 -- Laws of the sheet format.
 pub mod FieldLaws
+pub mod FieldSteps
 pub mod LineLaws
 pub mod RowLaws
 pub mod RuleLaws
