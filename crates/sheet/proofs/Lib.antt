@@ -2,6 +2,7 @@
 pub mod FieldLaws
 pub mod FieldSteps
 pub mod LineLaws
+pub mod LineSteps
 pub mod RowLaws
 pub mod RuleLaws
 pub mod Places

@@ -6,6 +6,7 @@ ghost use Rattle.sheet.specs.Limits.{widths};
 use net::Net;
 
 pub mod fields; // fields.rt: one field
+pub mod lines; // lines.rt: the five numbers of a line, and one line of a sheet
 
 // Lines of five fields, four columns each, ended by byte 10.
 pub struct Sheet;
@@ -39,6 +40,12 @@ pub struct Line {
     pub third: u16,
     pub fourth: u16,
     pub fifth: u16,
+}
+
+// What a line reads as.
+pub enum LineRead {
+    Five(Line),
+    Refused,
 }
 
 // An answer is 0 or a number of document 01, with a place.
