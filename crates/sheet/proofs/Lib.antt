@@ -1,6 +1,8 @@
 -- Laws of the sheet format.
 pub mod FieldLaws
+pub mod FieldSteps
 pub mod LineLaws
+pub mod LineSteps
 pub mod RowLaws
 pub mod RuleLaws
 pub mod Places

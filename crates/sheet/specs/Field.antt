@@ -6,6 +6,8 @@ use mathlib.Core.Option.{Option, none, some}
 use lib.Dec.{ltb}
 use lib.ListN.{length}
 use Rattle.ternary.specs.Lists.{same}
+use Rattle.sheet.specs.declared.Field.{Field}
+use Rattle.sheet.specs.declared.Field.the-variants.{Number, Refused}
 use Rattle.sheet.specs.Limits.{blank, digitZero}
 
 -- the column of n that weighs 10 ^ k: blank before n's first digit; the last column is always a digit
@@ -26,3 +28,8 @@ fieldValue (c ∷ b) = (c - digitZero) * 10 ^ length b + fieldValue b
 -- the number whose field of w columns these bytes are
 unfoldable pub readField : ℕ → List ℕ → Option ℕ
 readField w b = cond (same b (writeField w (fieldValue b))) (some (fieldValue b)) none
+
+-- the code's answer for a field
+abbrev pub fieldAnswer : Option ℕ → Field
+fieldAnswer none = Refused
+fieldAnswer (some n) = Number n

@@ -21,9 +21,6 @@ mostLines = 1 + mostVertices + mostEdges
 abbrev pub mostBytes : ℕ
 mostBytes = lineWidth * mostLines
 
-abbrev pub widths : Widths
-widths = record { field = fieldWidth; fields = fieldCount; line = lineWidth; sheet = mostBytes }
-
 -- bytes: a blank, the digit 0 (the others follow it), the end of a line
 abbrev pub blank : ℕ
 blank = 32
@@ -33,3 +30,15 @@ digitZero = 48
 
 abbrev pub lineEnd : ℕ
 lineEnd = 10
+
+abbrev pub widths : Widths
+widths =
+    record {
+      field = fieldWidth;
+      fields = fieldCount;
+      line = lineWidth;
+      sheet = mostBytes;
+      blank = blank;
+      «digit_zero» = digitZero;
+      «line_end» = lineEnd;
+    }

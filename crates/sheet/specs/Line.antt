@@ -7,6 +7,8 @@ use lib.Dec.{leb}
 use lib.ListN.{length, take, drop}
 use Rattle.ternary.specs.Lists.{same}
 use Rattle.sheet.specs.declared.Line.{Line}
+use Rattle.sheet.specs.declared.LineRead.{LineRead}
+use Rattle.sheet.specs.declared.LineRead.the-variants.{Five, Refused}
 use Rattle.sheet.specs.Limits.{fieldWidth, fieldCount, lineWidth, lineEnd}
 use Rattle.sheet.specs.Field.{writeField, readField}
 
@@ -40,6 +42,11 @@ readLine b =
     (same (drop (fieldWidth * fieldCount) b) (lineEnd ∷ []))
     (fiveFields (fieldAt b 0) (fieldAt b 1) (fieldAt b 2) (fieldAt b 3) (fieldAt b 4))
     none
+
+-- the code's answer for a line
+abbrev pub lineAnswer : Option Line → LineRead
+lineAnswer none = Refused
+lineAnswer (some v) = Five v
 
 -- ---- the call for one line of a sheet
 

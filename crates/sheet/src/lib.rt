@@ -11,6 +11,9 @@ pub mod tests;
 
 use net::Net;
 
+pub mod fields; // fields.rt: one field
+pub mod lines; // lines.rt: the five numbers of a line, and one line of a sheet
+
 // Lines of five fields, four columns each, ended by byte 10.
 pub struct Sheet;
 
@@ -22,6 +25,18 @@ impl Sheet {
     pub const LINE_WIDTH: usize = Sheet::FIELD_WIDTH * Sheet::FIELDS + 1;
     // A header, and a line for each vertex and each edge.
     pub const MOST_BYTES: usize = Sheet::LINE_WIDTH * (1 + Net::MOST_VERTICES + Net::MOST_EDGES);
+    // The bytes of a sheet: blanks and digits, the other digits following 0, and the end of a line.
+    pub const BLANK: u8 = 32;
+
+    pub const DIGIT_ZERO: u8 = 48;
+
+    pub const LINE_END: u8 = 10;
+}
+
+// What a field reads as.
+pub enum Field {
+    Number(u16),
+    Refused,
 }
 
 // The five numbers of a line; the first says of what kind the line is.
@@ -31,6 +46,12 @@ pub struct Line {
     pub third: u16,
     pub fourth: u16,
     pub fifth: u16,
+}
+
+// What a line reads as.
+pub enum LineRead {
+    Five(Line),
+    Refused,
 }
 
 // An answer is 0 or a number of document 01, with a place.
@@ -51,15 +72,18 @@ pub enum JobLine {
     Refused,
 }
 
-// The widths as one value, to hold the constants to the definitions.
+// The widths and bytes as one value, to hold the constants to the definitions.
 pub struct Widths {
     pub field: usize,
     pub fields: usize,
     pub line: usize,
     pub sheet: usize,
+    pub blank: u8,
+    pub digit_zero: u8,
+    pub line_end: u8,
 }
 
-// The code's widths are those of the definitions.
+// The code's widths and bytes are those of the definitions.
 pub fn widths_in_force() -> Widths
     ensures { λ r. ⌜ r ≡ widths ⌝ }
 {
@@ -68,5 +92,8 @@ pub fn widths_in_force() -> Widths
         fields: Sheet::FIELDS,
         line: Sheet::LINE_WIDTH,
         sheet: Sheet::MOST_BYTES,
+        blank: Sheet::BLANK,
+        digit_zero: Sheet::DIGIT_ZERO,
+        line_end: Sheet::LINE_END,
     }
 }
