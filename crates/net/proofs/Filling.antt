@@ -47,6 +47,19 @@ fill-step {n} {f} {g} {r} {i} {x} m h e =
     go j (inl k) = getD-set-other r i j x 0 (omega arith) ∙ m .stored j k
     go j (inr k) = subst (λ (p : ℕ). getD (set r i x) p 0 ≡ f p) (sym k) (getD-set-same r i x 0 (omega (arith, m .size)) ∙ e)
 
+-- an entry that is right as it was
+pub fill-skip : {n : ℕ} {f g : ℕ → ℕ} {r : List ℕ} {i : ℕ} → Filled n f g r i → g i ≡ f i → Filled n f g r (i + 1)
+fill-skip {n} {f} {g} {r} {i} m e =
+    record {
+      size = m .size;
+      stored = λ j l. go j (below-cases {i = j} {n = i} (omega arith));
+      kept = λ j l. m .kept j (omega arith);
+    }
+  where
+    go : (j : ℕ) → (j < i) ⊎ (j ≡ i) → getD r j 0 ≡ f j
+    go j (inl k) = m .stored j k
+    go j (inr k) = subst (λ (p : ℕ). getD r p 0 ≡ f p) (sym k) (m .kept i (omega arith) ∙ e)
+
 -- after the last: the entries that were never stored are already right
 pub fill-end : {n : ℕ} {f g : ℕ → ℕ} {r : List ℕ} {i : ℕ} → Filled n f g r i → ((j : ℕ) → i ≤ j → j < n → g j ≡ f j) → r ≡ table n f
 fill-end {n} {f} {g} {r} {i} m e =

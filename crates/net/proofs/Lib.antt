@@ -6,6 +6,7 @@ pub mod Cases
 pub mod Classes
 pub mod Filling
 pub mod ClassTables
+pub mod TableLaws
 pub mod Reach
 pub mod Connected
 pub mod Fights

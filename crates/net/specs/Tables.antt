@@ -17,3 +17,33 @@ pub record Joinable (first second on : List ℕ) (n : ℕ) : Type 0 where
   pub few : n ≤ mostEdges
   pub first-end : (i : ℕ) → i < n → getD on i 0 ≡ 1 → getD first i 0 ≤ mostVertices
   pub second-end : (i : ℕ) → i < n → getD on i 0 ≡ 1 → getD second i 0 ≤ mostVertices
+
+-- the record fits its arrays, and the edges in use have their ends in a table of vertices
+pub record Readable (N : Net) : Type 0 where
+  pub vertices : N .«vertex_count» ≤ mostVertices
+  pub edges : N .«edge_count» ≤ mostEdges
+  pub first-end : (i : ℕ) → i < N .«edge_count» → (edgeAt N i) .end1 ≤ mostVertices
+  pub second-end : (i : ℕ) → i < N .«edge_count» → (edgeAt N i) .end2 ≤ mostVertices
+
+-- 1 at each storage vertex
+unfoldable pub storageFlags : Net → List ℕ
+storageFlags N = table (suc mostVertices) (λ v. digit (isStorage N v))
+
+-- the ends of each edge
+unfoldable pub firstEnds : Net → List ℕ
+firstEnds N = table mostEdges (λ i. (edgeAt N i) .end1)
+
+unfoldable pub secondEnds : Net → List ℕ
+secondEnds N = table mostEdges (λ i. (edgeAt N i) .end2)
+
+-- 1 at each edge in use that joins storage vertices
+unfoldable pub innerFlags : Net → List ℕ
+innerFlags N = table mostEdges (λ i. digit (ltb i (N .«edge_count») && inner N (edgeAt N i)))
+
+-- the components' labels; those of the vertices in use come first, as `components` has them
+unfoldable pub componentLabels : Net → List ℕ
+componentLabels N = classes (suc mostVertices) (λ i. (edgeAt N i) .end1) (λ i. (edgeAt N i) .end2) (λ i. inner N (edgeAt N i)) (N .«edge_count»)
+
+-- 1 at each key node
+unfoldable pub keyFlags : Net → List ℕ
+keyFlags N = table (suc mostVertices) (λ v. digit (isKey N v))

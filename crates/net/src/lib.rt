@@ -1,6 +1,7 @@
 //! The record of a net, the report's CMOS graph: its vertices, its edges and how many letters it has.
 //! What a net means stands in specs/, the laws of it in proofs/.
 
+pub mod graph;
 pub mod symbols;
 pub mod walk;
 

@@ -1,0 +1,89 @@
+//! The graph of a net as tables of bytes: an entry for each edge, or for each vertex number from 0.
+use crate::Net;
+use crate::walk;
+ghost use mathlib.Core.Path.{_≡_};
+ghost use mathlib.Core.Bool.{_&&_, _||_};
+ghost use Prim.Native.Nat.{suc, _≤_};
+ghost use lib.Dec.{eqb};
+ghost use lib.ListN.{take};
+ghost use Rattle.ternary.specs.Bits.{digit};
+ghost use Rattle.ternary.specs.Lists.{table};
+ghost use Rattle.net.specs.Limits.{mostVertices, mostEdges};
+ghost use Rattle.net.specs.Component.{components};
+ghost use Rattle.net.specs.Tables.{Readable, storageFlags, firstEnds, secondEnds, innerFlags, componentLabels, keyFlags};
+
+fn storage_flag(role: u8) -> u8
+    ensures { λ r. ⌜ r ≡ digit (eqb role 1 || eqb role 2) ⌝ }
+{
+    match role {
+        1..=2 => 1,
+        _ => 0,
+    }
+}
+
+// 1 at each storage vertex, 0 elsewhere.
+pub fn storage_flags(net: Net) -> [u8; Net::VERTEX_PLACES]
+    requires { ⌜ net .«vertex_count» ≤ mostVertices ⌝ }
+    ensures { λ r. ⌜ r ≡ storageFlags net ⌝ }
+{
+    let mut flags = [0u8; Net::VERTEX_PLACES];
+    let count = net.vertex_count as usize;
+    for i in 0..count {
+        flags[i + 1] = storage_flag(net.vertices[i].role);
+    }
+    flags
+}
+
+pub fn first_ends(net: Net) -> [u8; Net::MOST_EDGES]
+    ensures { λ r. ⌜ r ≡ firstEnds net ⌝ }
+{
+    let mut ends = [0u8; Net::MOST_EDGES];
+    for i in 0..Net::MOST_EDGES {
+        ends[i] = net.edges[i].end1;
+    }
+    ends
+}
+
+pub fn second_ends(net: Net) -> [u8; Net::MOST_EDGES]
+    ensures { λ r. ⌜ r ≡ secondEnds net ⌝ }
+{
+    let mut ends = [0u8; Net::MOST_EDGES];
+    for i in 0..Net::MOST_EDGES {
+        ends[i] = net.edges[i].end2;
+    }
+    ends
+}
+
+fn both(a: u8, b: u8) -> u8
+    ensures { λ r. ⌜ r ≡ digit (eqb a 1 && eqb b 1) ⌝ }
+{
+    if a != 1 {
+        return 0;
+    }
+    if b == 1 { 1 } else { 0 }
+}
+
+// 1 at each edge in use that joins storage vertices, 0 elsewhere.
+pub fn inner_flags(net: Net, storage: &[u8; Net::VERTEX_PLACES]) -> [u8; Net::MOST_EDGES]
+    requires { ⌜ Readable net × (now storage ≡ storageFlags net) ⌝ }
+    ensures { λ r. ⌜ r ≡ innerFlags net ⌝ }
+{
+    let mut flags = [0u8; Net::MOST_EDGES];
+    let count = net.edge_count as usize;
+    for i in 0..count {
+        let edge = net.edges[i];
+        flags[i] = both(storage[edge.end1 as usize], storage[edge.end2 as usize]);
+    }
+    flags
+}
+
+// The label of each vertex's component.
+pub fn component_labels(net: Net, storage: &[u8; Net::VERTEX_PLACES]) -> [u8; Net::VERTEX_PLACES]
+    requires { ⌜ Readable net × (now storage ≡ storageFlags net) ⌝ }
+    ensures { λ r. ⌜ (r ≡ componentLabels net) × (take (suc (net .«vertex_count»)) r ≡ components net) ⌝ }
+{
+    let first = first_ends(net);
+    let second = second_ends(net);
+    let inner = inner_flags(net, storage);
+    walk::class_labels(&first, &second, &inner, net.edge_count as usize)
+}
