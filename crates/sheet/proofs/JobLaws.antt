@@ -7,15 +7,17 @@ use mathlib.Core.Bool.{cond, true≢false, _&&_}
 use mathlib.Core.List.{List}
 use mathlib.Core.Option.{Option, none, some}
 use lib.Dec.{eqb}
-use borrow.Author.Tests.{eqb-true}
+use borrow.Author.Tests.{eq-eqb, ne-eqb, eqb-true}
 use Rattle.ternary.proofs.Tests.{ands, cond-by}
 use Rattle.sheet.specs.declared.JobLine.{JobLine}
 use Rattle.sheet.specs.declared.JobLine.the-variants.{Asked, Refused}
 use Rattle.sheet.specs.Limits.{fieldWidth}
 use Rattle.sheet.specs.declared.Line.{Line}
-use Rattle.sheet.specs.Line.{line, writeLine, readLine}
+use Rattle.sheet.specs.declared.LineRead.the-variants.{Five, Refused as Unread}
+use Rattle.sheet.specs.Line.{line, writeLine, readLine, lineAnswer}
 use Rattle.sheet.specs.Job.{jobOf, jobNumber}
 use Rattle.sheet.proofs.LineLaws.{SmallLine, read-write-line, write-read-line}
+use Rattle.sheet.proofs.LineSteps.{five-of, unread-of}
 
 -- b is the line of this job
 pub record JobBytes (b : List ℕ) (A B q : ℕ) : Type 0 where
@@ -73,3 +75,23 @@ module _ (b : List ℕ) where
       there : (r : JobLine) → jobNumber r ≡ 46 → r ≡ Refused
       there (Asked A B q) e = absurd (omega arith)
       there Refused e = refl
+
+-- ---- the tests of a job line in their order
+
+module _ (b : List ℕ) where
+  pub job-unread : lineAnswer (readLine b) ≡ Unread → Refused ≡ jobOf b
+  unfolding jobOf
+  job-unread e = rw (unread-of (readLine b) e, jobOf)
+
+  module _ (v : Line) (five : lineAnswer (readLine b) ≡ Five v) where
+    pub not-job : (v .kind ≡ 4 → ⊥) → Refused ≡ jobOf b
+    unfolding jobOf
+    not-job f = rw (five-of (readLine b) v five, jobOf, ne-eqb (v .kind) 4 f)
+
+    pub wrong-fifth : (v .fifth ≡ 0 → ⊥) → v .kind ≡ 4 → Refused ≡ jobOf b
+    unfolding jobOf
+    wrong-fifth f k = rw (five-of (readLine b) v five, jobOf, eq-eqb (v .kind) 4 k, ne-eqb (v .fifth) 0 f)
+
+    pub is-job : v .kind ≡ 4 → v .fifth ≡ 0 → Asked (v .second) (v .third) (v .fourth) ≡ jobOf b
+    unfolding jobOf
+    is-job k z = rw (five-of (readLine b) v five, jobOf, eq-eqb (v .kind) 4 k, eq-eqb (v .fifth) 0 z)

@@ -13,9 +13,11 @@ use Rattle.ternary.specs.Lists.{same}
 use Rattle.ternary.proofs.Tests.{fails, same-test}
 use Rattle.ternary.proofs.ListLaws.{same-true}
 use Rattle.sheet.specs.declared.Field.the-variants.{Number, Refused}
+use Rattle.sheet.specs.declared.Line.{Line}
+use Rattle.sheet.specs.declared.LineRead.the-variants.{Five, Refused as Unread}
 use Rattle.sheet.specs.Limits.{fieldWidth, fieldCount, lineWidth, lineEnd}
 use Rattle.sheet.specs.Field.{fieldAnswer}
-use Rattle.sheet.specs.Line.{line, fieldAt, fiveFields, readLine, hasLine, sheetLine}
+use Rattle.sheet.specs.Line.{line, fieldAt, fiveFields, readLine, lineAnswer, hasLine, sheetLine}
 use Rattle.sheet.proofs.LineLaws.{FullLine, line-bytes}
 
 -- ---- the five numbers of a line
@@ -91,6 +93,16 @@ module _ (b : List ℕ) (size : length b ≡ lineWidth) (end : getD b (fieldWidt
                 number-of (fieldAt b 3) n e3,
                 number-of (fieldAt b 4) o e4,
               )
+
+-- ---- what the code's answer for a line says
+
+pub five-of : (o : Option Line) (v : Line) → lineAnswer o ≡ Five v → o ≡ some v
+five-of none v e = absurd (true≢false (cc))
+five-of (some w) v e = cc
+
+pub unread-of : (o : Option Line) → lineAnswer o ≡ Unread → o ≡ none
+unread-of none e = refl
+unread-of (some w) e = absurd (true≢false (cc))
 
 -- ---- parts
 

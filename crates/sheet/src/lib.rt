@@ -12,6 +12,7 @@ pub mod tests;
 use net::Net;
 
 pub mod fields; // fields.rt: one field
+pub mod jobs; // jobs.rt: job lines
 pub mod lines; // lines.rt: the five numbers of a line, and one line of a sheet
 
 // Lines of five fields, four columns each, ended by byte 10.
@@ -46,6 +47,17 @@ pub struct Line {
     pub third: u16,
     pub fourth: u16,
     pub fifth: u16,
+}
+
+impl Line {
+    // The kinds of a line.
+    pub const HEADER: u16 = 1;
+
+    pub const VERTEX: u16 = 2;
+
+    pub const EDGE: u16 = 3;
+
+    pub const JOB: u16 = 4;
 }
 
 // What a line reads as.
