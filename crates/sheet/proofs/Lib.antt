@@ -7,6 +7,7 @@ pub mod RowLaws
 pub mod RuleLaws
 pub mod Places
 pub mod GraphLaws
+pub mod KeyFlagLaws
 pub mod AllLaws
 pub mod Validity
 pub mod WriteLaws

@@ -3,9 +3,10 @@
 ghost use mathlib.Core.Path.{_≡_};
 ghost use Prim.Native.Nat.{ℕ, _≤_, _<_};
 ghost use Rattle.ternary.specs.Lists.{anyBelow};
-ghost use Rattle.net.specs.Limits.{mostEdges};
+ghost use Rattle.net.specs.Limits.{mostVertices, mostEdges};
+ghost use Rattle.net.specs.Tables.{keyFlags};
 ghost use Rattle.net.specs.Graph.{edgeAt};
-ghost use Rattle.sheet.specs.Graph.{isPartner, lacksPartner, partnerPlace, foundOf};
+ghost use Rattle.sheet.specs.Graph.{isPartner, lacksPartner, partnerPlace, keyPlace, foundOf};
 use crate::tests::both;
 use crate::tests::either;
 use net::Edge;
@@ -70,6 +71,30 @@ pub fn partner_place(net: Net) -> Found
             return Found::At(above + i as u16);
         }
         i += 1;
+    }
+    Found::Nothing
+}
+
+fn wide(x: u8) -> usize
+    ensures { λ r. ⌜ (r ≡ x) × (r < 256) ⌝ }
+{
+    x as usize
+}
+
+// The vertex of the first key node above the limit.
+pub fn key_place(net: Net, keys: &[u8; Net::VERTEX_PLACES]) -> Found
+    requires { ⌜ (net .«vertex_count» ≤ mostVertices) × (now keys ≡ keyFlags net) ⌝ }
+    ensures { λ r. ⌜ r ≡ foundOf (keyPlace net) ⌝ }
+{
+    let last = net.vertex_count as usize;
+    let mut found: usize = 0;
+    let mut v: usize = 0;
+    while v <= last {
+        found += wide(keys[v]);
+        if Net::MOST_KEY_NODES < found {
+            return Found::At(v as u16);
+        }
+        v += 1;
     }
     Found::Nothing
 }

@@ -13,6 +13,7 @@ use lib.Dec.{eqb, ltb}
 use lib.ListN.{length, getD, length-append, List·getD-append}
 use lib.Seq.{getD-append-seam}
 use borrow.Author.Tests.{eqb-true, eq-eqb, ltb-true, ltb-false}
+use Rattle.ternary.specs.Bits.{digit}
 use Rattle.ternary.specs.Lists.{table, same, anyBelow, allBelow, countBelow, listBelow, leastBelow}
 use Rattle.ternary.proofs.Tests.{and-left, and-right, and-false, both, or-true, or-left, or-right, test, by-test, cond-by, fails, not-both}
 
@@ -214,6 +215,15 @@ module _ (p : ℕ → Bool) where
       go ih (inl e) = rw e (omega arith)
       go ih (inr e) = rw e (omega arith)
 
+  -- one number more, for a loop that counts
+  pub count-more : (n : ℕ) → countBelow (n + 1) p ≡ countBelow n p + digit (p n)
+  unfolding countBelow
+  count-more n = rw (add-one, countBelow) (go (p n))
+    where
+      go : (b : Bool) → cond b (suc (countBelow n p)) (countBelow n p) ≡ countBelow n p + digit b
+      go true = omega arith
+      go false = omega arith
+
   -- v is the element at place k of the list below n: the place counts the numbers before it
   pub record At (n k v : ℕ) : Type 0 where
     pub below : v < n
@@ -282,7 +292,12 @@ module _ (p : ℕ → Bool) where
       (by-test (ltb (u .0) (v .0)) (ltb-true (u .0) (v .0))
       (λ e. absurd (omega (arith, count-mono (v .0) (u .0) (ltb-false (u .0) (v .0) e), u .1 .place, v .1 .place))))
 
--- lists by tests that agree
+-- counts and lists by tests that agree
+pub count-ext : (n : ℕ) (p q : ℕ → Bool) → ((k : ℕ) → k < n → p k ≡ q k) → countBelow n p ≡ countBelow n q
+unfolding countBelow
+count-ext zero p q e = refl
+count-ext (suc n) p q e = rw (e n (omega arith), count-ext n p q (λ k l. e k (omega arith)))
+
 pub list-ext : (n : ℕ) (p q : ℕ → Bool) → ((k : ℕ) → p k ≡ q k) → listBelow n p ≡ listBelow n q
 list-ext n p q e = ap (listBelow n) (λ i k. e k i)
 
