@@ -20,18 +20,10 @@ use Rattle.ternary.proofs.ListLaws.{below-cases}
 use Rattle.sheet.specs.declared.Line.{Line}
 use Rattle.sheet.specs.Record.{startNet}
 use Rattle.sheet.specs.Rules.{countsOk, vertexOk, symbolOk, edgeOk}
-use Rattle.sheet.specs.Checked.{Checked}
+use Rattle.sheet.specs.Checked.{Checked, SoFar}
 use Rattle.sheet.specs.Reading.{Step, vertexOf, edgeOf, withVertices, withEdges, vertexLineOk, edgeLineOk, addLine}
 use Rattle.sheet.specs.Reading.Step.{next, stop}
 use Rattle.sheet.proofs.RuleLaws.{counts-facts}
-
--- the first j lines below the header have been added
-pub record SoFar (N : Net) (j : ℕ) : Type 0 where
-  pub counts : countsOk (N .«vertex_count») (N .«edge_count») (N .«letter_count») ≡ true
-  pub vertex-places : length (N .vertices) ≡ mostVertices
-  pub edge-places : length (N .edges) ≡ mostEdges
-  pub vertices : (i : ℕ) → i < j → i < N .«vertex_count» → vertexOk N (getD (N .vertices) i noVertex) ≡ true
-  pub edges : (k : ℕ) → N .«vertex_count» + k < j → edgeOk N (getD (N .edges) k noEdge) ≡ true
 
 pub none-yet : (v e l : ℕ) → countsOk v e l ≡ true → SoFar (startNet v e l) 0
 unfolding startNet

@@ -1,0 +1,182 @@
+#!/usr/bin/env python3
+"""Cases for the reader, the one-line call and the job line, with the answers that document 01 asks for.
+
+Each case has a note: the row or sentence of document 01 that its answer follows from. Running this file writes the input and the expected
+output of the test program `sheet_cases`. The expected numbers are worked out here by hand, never taken from a run.
+
+A case in the input: its kind (one byte), the length of its note in four columns, the note, a number in four columns (0 unless the case is one
+line of a sheet), the length of its bytes in four columns, the bytes. The program prints an answer and the note on a line for each.
+"""
+import pathlib
+
+
+def field(n):
+    return b"%4d" % n
+
+
+def line(*numbers):
+    return b"".join(field(n) for n in numbers) + b"\n"
+
+
+def sheet(*lines):
+    return b"".join(l if isinstance(l, bytes) else line(*l) for l in lines)
+
+
+# Document 01's worked example.
+HEADER = (1, 4, 4, 1, 1)
+VERTICES = [(2, 1, 0, 0, 0), (2, 2, 0, 1, 0), (2, 3, 2, 0, 0), (2, 4, 1, 0, 0)]
+EDGES = [(3, 2, 3, 1, 11), (3, 2, 3, 1, 103), (3, 3, 4, 0, 11), (3, 4, 1, 0, 103)]
+WORKED = [HEADER] + VERTICES + EDGES
+
+
+def worked(**changes):
+    """The worked sheet with some lines replaced: l1 is its first line."""
+    lines = list(WORKED)
+    for name, new in changes.items():
+        lines[int(name[1:]) - 1] = new
+    return sheet(*lines)
+
+
+def inputs(count, edges, letters):
+    """A sheet of input vertices that carry 0, and edges under 0 between the first two."""
+    return sheet((1, count, edges, letters, 1), *[(2, v + 1, 0, 0, 0) for v in range(count)], *[(3, 1, 2, 0, 0)] * edges)
+
+
+def keyed(n):
+    """One input vertex and n storage vertices, each the symbol of its own edge to the input vertex."""
+    return sheet((1, n + 1, n, 0, 1), (2, 1, 0, 0, 0), *[(2, v + 2, 1, 0, 0) for v in range(n)], *[(3, 1, v + 2, 0, 102 + v) for v in range(n)])
+
+
+def signalled(*more):
+    """One storage vertex, vertex 2, with an edge under each of 8 letters to vertex 1, which carries 0, and more edges."""
+    return sheet((1, 3, 8 + len(more), 8, 1), (2, 1, 0, 0, 0), (2, 2, 1, 0, 0), (2, 3, 0, 18, 0), *[(3, 1, 2, 0, 11 + j) for j in range(8)], *more)
+
+
+def seven(*more):
+    """The same with 7 letters on its edges; vertex 3 is an input vertex that carries letter 8."""
+    return sheet((1, 3, 7 + len(more), 8, 1), (2, 1, 0, 0, 0), (2, 2, 1, 0, 0), (2, 3, 0, 18, 0), *[(3, 1, 2, 0, 11 + j) for j in range(7)], *more)
+
+
+ONE = line(*HEADER)
+CASES = []
+
+
+def read(number, place, note, data):
+    """A sheet's number and place; an accepted record is a record, and the empty one that a refusal gives is none."""
+    CASES.append((b"S", 0, data, field(number) + field(place) + field(1 if number == 0 else 0), note))
+
+
+def one_line(number, length, note, n, data):
+    CASES.append((b"L", n, data, field(number) + field(length), note))
+
+
+def job(answer, note, data):
+    CASES.append((b"J", 0, data, b"".join(field(n) for n in answer), note))
+
+
+read(0, 0, "the worked example is accepted", worked())
+read(11, 0, "row 11: length 0", b"")
+read(11, 0, "row 11: 20 bytes", ONE[:20])
+read(11, 0, "row 11: 22 bytes", ONE + b" ")
+read(0, 0, "row 11: 6,069 bytes are the limit, 96 vertices and 192 edges", inputs(96, 192, 0))
+read(11, 0, "row 11: 6,070 bytes", inputs(96, 192, 0) + b" ")
+read(11, 0, "row 11: 6,090 bytes", inputs(96, 192, 0) + ONE)
+read(12, 1, "row 12: line 1 without byte 10", worked(l1=ONE[:20] + b" "))
+read(12, 5, "a line without its byte 10 counts as not five fields", worked(l5=line(2, 4, 1, 0, 0)[:20] + b" "))
+read(12, 5, "a tab is no blank", worked(l5=b"   2\t  4   1   0   0\n"))
+read(12, 5, "a sign is no digit", worked(l5=b"   2  +4   1   0   0\n"))
+read(12, 5, "a leading zero", worked(l5=b"   2  04   1   0   0\n"))
+read(12, 5, "zero is one digit 0", worked(l5=b"   2   4   1  00   0\n"))
+read(12, 5, "a blank inside a number", worked(l5=b"   2   4   1 1 0   0\n"))
+read(12, 5, "a blank after a number", worked(l5=b"   2  4    1   0   0\n"))
+read(12, 5, "an empty field", worked(l5=b"   2   4   1       0\n"))
+read(12, 5, "a byte above 127", worked(l5=b"   2   4   1   0   \xb9\n"))
+read(12, 5, "a NUL", worked(l5=b"   2   4   1   0\x00  0\n"))
+read(13, 1, "row 13: wrong kind of header", worked(l1=(2, 4, 4, 1, 1)))
+read(13, 1, "row 13: V is at least 1", sheet((1, 0, 0, 0, 1)))
+read(0, 0, "V 1 and E 0 are allowed", inputs(1, 0, 0))
+read(13, 1, "row 13: V 97", sheet((1, 97, 0, 0, 1), *[(2, v + 1, 0, 0, 0) for v in range(97)]))
+read(13, 1, "row 13: E 193", inputs(2, 193, 0))
+read(0, 0, "L 8 is allowed", inputs(2, 1, 8))
+read(13, 1, "row 13: L 9", inputs(2, 1, 9))
+read(13, 1, "row 13: edition 0", worked(l1=(1, 4, 4, 1, 0)))
+read(13, 1, "row 13: edition 2", worked(l1=(1, 4, 4, 1, 2)))
+read(14, 0, "row 14: one line short", sheet(*WORKED[:-1]))
+read(14, 0, "row 14: one line long", sheet(*WORKED, EDGES[0]))
+read(14, 0, "row 14 stands before the later lines' 12", sheet(HEADER, b" " * 20 + b"\n", *VERTICES[1:], *EDGES[:-1]))
+read(15, 3, "row 15: wrong kind on a vertex line", worked(l3=(3, 2, 0, 1, 0)))
+read(16, 7, "row 16: wrong kind on an edge line", worked(l7=(2, 2, 3, 1, 103)))
+read(15, 3, "row 15: vertex numbers are 1 to V in order", worked(l3=(2, 3, 0, 1, 0)))
+read(15, 5, "row 15: role 3", worked(l5=(2, 4, 3, 0, 0)))
+read(15, 5, "row 15: a vertex line's fifth field is 0", worked(l5=(2, 4, 1, 0, 1)))
+for label in (2, 10, 19, 101):
+    read(15, 3, "row 15: an input vertex's label is 0, 1 or a letter's symbol, not %d" % label, worked(l3=(2, 2, 0, label, 0)))
+read(15, 3, "row 15: letter 2 of a net with one letter", worked(l3=(2, 2, 0, 12, 0)))
+read(0, 0, "an input vertex may carry a letter", worked(l3=(2, 2, 0, 11, 0)))
+read(15, 5, "row 15: a storage vertex's label is 0", worked(l5=(2, 4, 1, 1, 0)))
+read(16, 6, "row 16: end 0", worked(l6=(3, 0, 3, 1, 11)))
+read(16, 6, "row 16: end V + 1", worked(l6=(3, 2, 5, 1, 11)))
+read(16, 6, "row 16: equal ends", worked(l6=(3, 3, 3, 1, 11)))
+read(16, 6, "row 16: form 4", worked(l6=(3, 2, 3, 4, 11)))
+for symbol in (2, 10, 19, 100, 197):
+    read(16, 6, "row 16: %d is no symbol" % symbol, worked(l6=(3, 2, 3, 1, symbol)))
+read(16, 6, "row 16: letter 2 of a net with one letter", worked(l6=(3, 2, 3, 1, 12)))
+read(16, 6, "row 16: a vertex that the net has not", worked(l6=(3, 2, 3, 1, 105)))
+read(16, 6, "row 16: symbol of an input vertex", worked(l6=(3, 2, 3, 1, 102)))
+for form in (2, 3):
+    for symbol in (0, 1):
+        read(16, 6, "row 16: form %d with symbol %d" % (form, symbol), worked(l6=(3, 2, 3, form, symbol)))
+read(0, 0, "forms 0 and 1 may have symbol 0 or 1", worked(l6=(3, 2, 3, 1, 1)))
+read(15, 3, "each later line in turn: 15 on line 3 before 12 on line 4", worked(l3=(2, 2, 3, 1, 0), l4=b"x" * 20 + b"\n"))
+read(12, 3, "each later line in turn: 12 on line 3 before 15 on line 4", worked(l3=b"x" * 20 + b"\n", l4=(2, 3, 3, 0, 0)))
+read(21, 8, "row 21: form 3 without a form 0 edge of the same symbol and ends", worked(l8=(3, 3, 4, 3, 11)))
+read(21, 6, "row 21: the first such edge's line", worked(l6=(3, 2, 3, 2, 103), l7=(3, 2, 3, 2, 11)))
+read(0, 0, "a parallel edge has the same two ends in either order", worked(l8=(3, 3, 4, 3, 11), l9=(3, 4, 3, 0, 11)))
+read(0, 0, "one partner may serve several", worked(l6=(3, 3, 4, 3, 11), l8=(3, 3, 4, 3, 11), l9=(3, 4, 3, 0, 11)))
+read(21, 8, "row 21: a partner has the same symbol", worked(l8=(3, 3, 4, 3, 11), l9=(3, 4, 3, 0, 103)))
+read(21, 8, "row 21: form 3 needs form 0, not form 1", worked(l8=(3, 3, 4, 3, 11), l9=(3, 4, 3, 1, 11)))
+read(0, 0, "a key node may be the symbol only of an edge between input vertices",
+     sheet((1, 3, 1, 0, 1), (2, 1, 0, 0, 0), (2, 2, 0, 1, 0), (2, 3, 1, 0, 0), (3, 1, 2, 0, 103)))
+read(0, 0, "twelve key nodes pass", keyed(12))
+read(22, 14, "row 22: thirteen key nodes, the vertex of the 13th", keyed(13))
+read(0, 0, "eight signals pass", signalled())
+read(23, 2, "row 23: nine signals, the ninth a key node", signalled((3, 2, 1, 0, 102)))
+read(0, 0, "the letter of an input vertex that is a signal already", signalled((3, 3, 2, 0, 11)))
+read(0, 0, "seven letters on the edges and the letter of an input vertex are eight signals", seven((3, 3, 2, 0, 11)))
+read(23, 2, "row 23: the ninth signal by an input vertex's letter", seven((3, 3, 2, 0, 102)))
+read(23, 3, "row 23: the lowest vertex of any such component", sheet(
+    (1, 4, 10, 8, 1), (2, 1, 0, 0, 0), (2, 2, 1, 0, 0), (2, 3, 1, 0, 0), (2, 4, 1, 0, 0),
+    *[(3, 1, 4, 0, 11 + j) for j in range(8)], (3, 4, 3, 0, 103), (3, 1, 2, 0, 11)))
+read(11, 0, "several faults: 11 comes first", worked(l1=(2, 97, 4, 1, 2)) + b" ")
+read(12, 1, "several faults: 12 on line 1 before 13", worked(l1=b"   2  97   4   1  02\n", l5=(2, 4, 3, 0, 0)))
+read(21, 29, "several faults: 21 before 22", sheet(
+    (1, 15, 14, 0, 1), (2, 1, 0, 0, 0), *[(2, v + 2, 1, 0, 0) for v in range(14)],
+    *[(3, 1, v + 2, 0, 102 + v) for v in range(12)], (3, 1, 14, 2, 114), (3, 1, 15, 0, 115)))
+
+one_line(0, 21, "line 2 of nine", 2, worked())
+one_line(0, 21, "the last line", 9, worked())
+one_line(47, 0, "the first line is 1, so there is no line 0", 0, worked())
+one_line(47, 0, "no line 10", 10, worked())
+one_line(47, 0, "a line of 20 bytes is not full", 1, ONE[:20])
+one_line(0, 21, "what the bytes hold is not tested", 1, b"x" * 21)
+one_line(47, 0, "a largest number of four columns", 9999, worked())
+
+job((0, 0, 1, 1), "4, A, B, q, 0", line(4, 0, 1, 1, 0))
+job((0, 9999, 9999, 9999), "any numbers of four columns", line(4, 9999, 9999, 9999, 0))
+job((46, 0, 0, 0), "row 46: 20 bytes", line(4, 0, 1, 1, 0)[:20])
+job((46, 0, 0, 0), "row 46: 22 bytes", line(4, 0, 1, 1, 0) + b" ")
+job((46, 0, 0, 0), "row 46: no bytes", b"")
+job((46, 0, 0, 0), "row 46: kind 3", line(3, 0, 1, 1, 0))
+job((46, 0, 0, 0), "row 46: last field 1", line(4, 0, 1, 1, 1))
+job((46, 0, 0, 0), "row 46: a leading zero", b"   4  00   1   1   0\n")
+job((46, 0, 0, 0), "row 46: without byte 10", b"   4   0   1   1   0 ")
+
+here = pathlib.Path(__file__).parent.parent / "crates" / "sheet_cases"
+given, wanted = b"", b""
+for kind, number, data, answer, note in CASES:
+    text = note.encode()
+    given += kind + field(len(text)) + text + field(number) + field(len(data)) + data
+    wanted += answer + b" " + text + b"\n"
+here.mkdir(exist_ok=True)
+(here / "stdin").write_bytes(given)
+(here / "stdout").write_bytes(wanted)
