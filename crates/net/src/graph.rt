@@ -1,5 +1,6 @@
 //! The graph of a net as tables of bytes: an entry for each edge, or for each vertex number from 0.
 use crate::Net;
+use crate::symbols;
 use crate::walk;
 ghost use mathlib.Core.Path.{_≡_};
 ghost use mathlib.Core.Bool.{_&&_, _||_};
@@ -86,4 +87,19 @@ pub fn component_labels(net: Net, storage: &[u8; Net::VERTEX_PLACES]) -> [u8; Ne
     let second = second_ends(net);
     let inner = inner_flags(net, storage);
     walk::class_labels(&first, &second, &inner, net.edge_count as usize)
+}
+
+// 1 at each key node, 0 elsewhere: a storage vertex that is the symbol of an edge in use. A symbol that is no vertex copies the flag of
+// number 0, which is no vertex either.
+pub fn key_flags(net: Net, storage: &[u8; Net::VERTEX_PLACES]) -> [u8; Net::VERTEX_PLACES]
+    requires { ⌜ Readable net × (now storage ≡ storageFlags net) ⌝ }
+    ensures { λ r. ⌜ r ≡ keyFlags net ⌝ }
+{
+    let mut flags = [0u8; Net::VERTEX_PLACES];
+    let count = net.edge_count as usize;
+    for i in 0..count {
+        let v = symbols::vertex_of(symbols::decoded(net.edges[i].symbol));
+        flags[v as usize] = storage[v as usize];
+    }
+    flags
 }
