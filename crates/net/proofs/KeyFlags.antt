@@ -7,19 +7,22 @@ use Prim.Native.Nat.{ℕ, zero, suc, _+_, _-_, _<_, _≤_}
 use native.Mathlib.Numerals.{add-one}
 use native.Mathlib.Omega.{arith}
 use lib.Dec.{eqb}
-use lib.ListN.{set}
+use lib.ListN.{length, getD, set}
 use borrow.Author.Tests.{eq-eqb, ne-eqb}
 use Rattle.ternary.specs.Bits.{digit}
-use Rattle.ternary.specs.Lists.{anyBelow}
-use Rattle.ternary.proofs.Tests.{by-test, not-both}
+use Rattle.ternary.specs.Lists.{anyBelow, countBelow}
+use Rattle.ternary.proofs.Tests.{by-test, not-both, fails}
+use Rattle.ternary.proofs.ListLaws.{length-list}
 use Rattle.net.specs.declared.Net.{Net}
 use Rattle.net.specs.Limits.{mostVertices, vertexBase}
 use Rattle.net.specs.Symbols.{decode}
-use Rattle.net.specs.Graph.{edgeAt, isStorage, isKey}
+use Rattle.net.specs.Graph.{edgeAt, isStorage, isKey, keys, keyCount}
 use Rattle.net.specs.Tables.{vertexOf, keyFlags}
 use Rattle.net.proofs.Cases.{decode-vertex}
 use Rattle.net.proofs.Values.{decode-by}
 use Rattle.net.proofs.Classes.{storage-range}
+use Rattle.net.proofs.Keys.{key-storage}
+use Rattle.net.proofs.Counting.{count-table, count-above}
 use Rattle.net.proofs.TableLaws.{no-vertex-0}
 use Rattle.net.proofs.Filling.{zeros}
 use Rattle.net.proofs.Flags.{Flagged, flags-none, flags-store, flags-table}
@@ -93,3 +96,12 @@ module _ (N : Net) where
   pub keys-all : {r : List ℕ} → Flagged (suc mostVertices) (keyAmong (N .«edge_count»)) r → r ≡ keyFlags N
   unfolding keyFlags isKey
   keys-all m = flags-table m
+
+-- the number of flags is h
+pub key-count : (N : Net) (r : List ℕ) → N .«vertex_count» ≤ mostVertices → r ≡ keyFlags N → countBelow (length r) (λ i. eqb (getD r i 0) 1) ≡ keyCount N
+unfolding keyFlags keyCount keys
+key-count N r few e =
+    count-table (suc mostVertices) (isKey N) r e
+    ∙ count-above (isKey N) (suc (N .«vertex_count»)) (suc mostVertices) (omega arith)
+    (λ v h. fails (isKey N v) (λ k. omega (arith, storage-range N v (key-storage N v k))))
+    ∙ sym (length-list (isKey N) (suc (N .«vertex_count»)))

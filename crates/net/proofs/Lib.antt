@@ -8,6 +8,7 @@ pub mod Filling
 pub mod ClassTables
 pub mod TableLaws
 pub mod Flags
+pub mod Counting
 pub mod KeyFlags
 pub mod Reach
 pub mod Connected
