@@ -26,7 +26,7 @@ fill-start {r = r} h = record { size = h; stored = λ j l. absurd (omega arith);
 abbrev pub zeros : ℕ → List ℕ
 zeros n = replicate n 0
 
-zeros-read : (n j : ℕ) → getD (zeros n) j 0 ≡ 0
+pub zeros-read : (n j : ℕ) → getD (zeros n) j 0 ≡ 0
 zeros-read n j = by-test (ltb j n)
     (λ h. getD-replicate n j _ _ (ltb-true j n h))
     (λ h. List·getD-eq-default (zeros n) 0 (omega (arith, ltb-false j n h, length-replicate {A = ℕ} n 0)))

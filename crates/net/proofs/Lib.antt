@@ -7,6 +7,9 @@ pub mod Classes
 pub mod Filling
 pub mod ClassTables
 pub mod TableLaws
+pub mod Flags
+pub mod Counting
+pub mod KeyFlags
 pub mod Reach
 pub mod Connected
 pub mod Fights

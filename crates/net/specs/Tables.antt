@@ -1,13 +1,15 @@
 -- What the code keeps of a net in arrays of bytes: an entry for each edge, or for each vertex number from 0.
 use Prim.Native.Nat.{ℕ, suc, _≤_, _<_}
-use mathlib.Core.Bool.{Bool, cond, _&&_}
+use mathlib.Core.Bool.{_&&_}
 use mathlib.Core.List.{List}
 use mathlib.Core.Path.{_≡_}
 use lib.Dec.{ltb}
-use lib.ListN.{getD, take}
+use lib.ListN.{getD}
 use Rattle.ternary.specs.Bits.{digit}
 use Rattle.ternary.specs.Lists.{table}
 use Rattle.net.specs.declared.Net.{Net}
+use Rattle.net.specs.declared.Symbol.{Symbol}
+use Rattle.net.specs.declared.Symbol.the-variants.{Constant, Letter, Vertex, Unknown}
 use Rattle.net.specs.Limits.{mostVertices, mostEdges}
 use Rattle.net.specs.Graph.{edgeAt, isStorage, isKey}
 use Rattle.net.specs.Classes.{classes, inner}
@@ -43,6 +45,13 @@ innerFlags N = table mostEdges (λ i. digit (ltb i (N .«edge_count») && inner 
 -- the components' labels; those of the vertices in use come first, as `components` has them
 unfoldable pub componentLabels : Net → List ℕ
 componentLabels N = classes (suc mostVertices) (λ i. (edgeAt N i) .end1) (λ i. (edgeAt N i) .end2) (λ i. inner N (edgeAt N i)) (N .«edge_count»)
+
+-- the vertex that a symbol stands for; 0, which is no vertex, if it stands for another thing
+abbrev pub vertexOf : Symbol → ℕ
+vertexOf (Constant c) = 0
+vertexOf (Letter j) = 0
+vertexOf (Vertex v) = v
+vertexOf Unknown = 0
 
 -- 1 at each key node
 unfoldable pub keyFlags : Net → List ℕ

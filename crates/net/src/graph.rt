@@ -1,14 +1,16 @@
 //! The graph of a net as tables of bytes: an entry for each edge, or for each vertex number from 0.
 use crate::Net;
+use crate::symbols;
 use crate::walk;
 ghost use mathlib.Core.Path.{_≡_};
 ghost use mathlib.Core.Bool.{_&&_, _||_};
 ghost use Prim.Native.Nat.{suc, _≤_};
 ghost use lib.Dec.{eqb};
-ghost use lib.ListN.{take};
+ghost use lib.ListN.{length, getD, take};
 ghost use Rattle.ternary.specs.Bits.{digit};
-ghost use Rattle.ternary.specs.Lists.{table};
+ghost use Rattle.ternary.specs.Lists.{table, countBelow};
 ghost use Rattle.net.specs.Limits.{mostVertices, mostEdges};
+ghost use Rattle.net.specs.Graph.{keyCount};
 ghost use Rattle.net.specs.Component.{components};
 ghost use Rattle.net.specs.Tables.{Readable, storageFlags, firstEnds, secondEnds, innerFlags, componentLabels, keyFlags};
 
@@ -86,4 +88,42 @@ pub fn component_labels(net: Net, storage: &[u8; Net::VERTEX_PLACES]) -> [u8; Ne
     let second = second_ends(net);
     let inner = inner_flags(net, storage);
     walk::class_labels(&first, &second, &inner, net.edge_count as usize)
+}
+
+// 1 at each key node, 0 elsewhere: a storage vertex that is the symbol of an edge in use. A symbol that is no vertex copies the flag of
+// number 0, which is no vertex either.
+pub fn key_flags(net: Net, storage: &[u8; Net::VERTEX_PLACES]) -> [u8; Net::VERTEX_PLACES]
+    requires { ⌜ Readable net × (now storage ≡ storageFlags net) ⌝ }
+    ensures { λ r. ⌜ r ≡ keyFlags net ⌝ }
+{
+    let mut flags = [0u8; Net::VERTEX_PLACES];
+    let count = net.edge_count as usize;
+    for i in 0..count {
+        let v = symbols::vertex_of(symbols::decoded(net.edges[i].symbol));
+        flags[v as usize] = storage[v as usize];
+    }
+    flags
+}
+
+// How many flags are 1.
+pub fn count_flags(flags: &[u8]) -> usize
+    ensures { λ r. ⌜ r ≡ countBelow (length (now (flags .entry))) (λ i. eqb (getD (now (flags .entry)) i 0) 1) ⌝ }
+{
+    let mut count: usize = 0;
+    for i in 0..flags.len() {
+        if flags[i] == 1 {
+            count += 1;
+        }
+    }
+    count
+}
+
+// h, the number of key nodes.
+pub fn key_count(net: Net) -> usize
+    requires { ⌜ Readable net ⌝ }
+    ensures { λ r. ⌜ r ≡ keyCount net ⌝ }
+{
+    let storage = storage_flags(net);
+    let keys = key_flags(net, &storage);
+    count_flags(&keys)
 }

@@ -3,7 +3,8 @@ use crate::Condition;
 use crate::Symbol;
 ghost use mathlib.Core.Path.{_≡_};
 ghost use Rattle.net.specs.State.{conditionOf};
-ghost use Rattle.net.specs.Symbols.{decode};
+ghost use Rattle.net.specs.Symbols.{decode, isVariable};
+ghost use Rattle.net.specs.Tables.{vertexOf};
 
 // The symbol that a number stands for.
 pub fn decoded(number: u16) -> Symbol
@@ -47,5 +48,29 @@ pub fn condition_of(form: u8, value: u8) -> Condition
             Condition::Open
         },
         _ => Condition::Open,
+    }
+}
+
+// The vertex that a symbol stands for, or 0, which is no vertex.
+pub fn vertex_of(symbol: Symbol) -> u8
+    ensures { λ r. ⌜ r ≡ vertexOf symbol ⌝ }
+{
+    match symbol {
+        Symbol::Constant(_) => 0,
+        Symbol::Letter(_) => 0,
+        Symbol::Vertex(v) => v,
+        Symbol::Unknown => 0,
+    }
+}
+
+// Does the value of a symbol depend on the state?
+pub fn is_variable(symbol: Symbol) -> bool
+    ensures { λ r. ⌜ r ≡ isVariable symbol ⌝ }
+{
+    match symbol {
+        Symbol::Constant(_) => false,
+        Symbol::Letter(_) => true,
+        Symbol::Vertex(_) => true,
+        Symbol::Unknown => false,
     }
 }
