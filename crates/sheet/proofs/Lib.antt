@@ -5,6 +5,7 @@ pub mod LineLaws
 pub mod LineSteps
 pub mod RowLaws
 pub mod RuleLaws
+pub mod RuleSteps
 pub mod Places
 pub mod GraphLaws
 pub mod Validity

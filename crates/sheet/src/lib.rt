@@ -8,6 +8,7 @@ use net::Net;
 pub mod fields; // fields.rt: one field
 pub mod jobs; // jobs.rt: job lines
 pub mod lines; // lines.rt: the five numbers of a line, and one line of a sheet
+pub mod rules; // rules.rt: the values that a line may have
 
 // Lines of five fields, four columns each, ended by byte 10.
 pub struct Sheet;
@@ -58,6 +59,13 @@ impl Line {
 pub enum LineRead {
     Five(Line),
     Refused,
+}
+
+// The form of an edge: a primed one names the form that its partner must have.
+pub enum Form {
+    Plain,
+    Primed(u8),
+    Unknown,
 }
 
 // An answer is 0 or a number of document 01, with a place.
