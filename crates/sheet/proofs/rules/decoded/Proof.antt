@@ -1,10 +1,8 @@
-use Rattle.net.proofs.Cases.{decode-constant, decode-low, decode-letter, decode-middle, decode-vertex, decode-high}
 use native.Mathlib.Omega.{arith}
 use borrow.Author.Needs.{needs}
+use Rattle.net.proofs.Cases.{decode-constant, decode-low, decode-letter, decode-middle, decode-vertex, decode-high}
 use Rattle.sheet.proofs.rules.decoded.Statement.{statement}
 use Rattle.sheet.proofs.rules.decoded.Tie as tie
-use Rattle.sheet.proofs.rules.decoded.Reads as reads
-use Rattle.sheet.proofs.rules.decoded.Lts as lts
 
 cast-t4 : tie.Need-cast-t4
 cast-t4 c = search needs

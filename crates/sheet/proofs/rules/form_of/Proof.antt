@@ -1,11 +1,8 @@
+use native.Mathlib.Omega.{arith}
 use Rattle.sheet.specs.Rules.{formOf}
 use Rattle.sheet.proofs.RuleSteps.{form-plain, form-unknown}
-use native.Mathlib.Omega.{arith}
-use borrow.Author.Needs.{needs}
 use Rattle.sheet.proofs.rules.form_of.Statement.{statement}
 use Rattle.sheet.proofs.rules.form_of.Tie as tie
-use Rattle.sheet.proofs.rules.form_of.Reads as reads
-use Rattle.sheet.proofs.rules.form_of.Lts as lts
 
 returns : tie.Need-returns
 unfolding formOf
