@@ -12,6 +12,7 @@ pub mod Validity
 pub mod WriteLaws
 pub mod LineInversion
 pub mod BodyInversion
+pub mod BodySteps
 pub mod ReadLaws
 pub mod LoopLaws
 pub mod Outcome

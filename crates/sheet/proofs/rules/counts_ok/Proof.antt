@@ -1,3 +1,4 @@
+-- `counts_ok` meets its contract.
 use native.Mathlib.Omega.{arith}
 use borrow.Author.Tests.{le-leb, lt-leb}
 use Rattle.net.specs.Limits.{mostVertices, mostEdges}

@@ -1,3 +1,4 @@
+-- `decoded` meets its contract, range by range.
 use native.Mathlib.Omega.{arith}
 use borrow.Author.Needs.{needs}
 use Rattle.net.proofs.Cases.{decode-constant, decode-low, decode-letter, decode-middle, decode-vertex, decode-high}

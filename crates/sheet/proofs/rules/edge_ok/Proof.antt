@@ -1,3 +1,4 @@
+-- `edge_ok` meets its contract: u is the place after the test of the first end, t the one after that of the second.
 use mathlib.Core.Path.{sym, _∙_}
 use borrow.Author.Tests.{not-true, not-false}
 use borrow.Author.Needs.{needs}

@@ -1,3 +1,4 @@
+-- `form_of` meets its contract, form by form.
 use native.Mathlib.Omega.{arith}
 use Rattle.sheet.specs.Rules.{formOf}
 use Rattle.sheet.proofs.RuleSteps.{form-plain, form-unknown}

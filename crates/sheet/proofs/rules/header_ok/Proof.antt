@@ -1,3 +1,4 @@
+-- `header_ok` meets its contract.
 use borrow.Author.Tests.{eq-eqb, ne-eqb}
 use borrow.Author.Needs.{needs}
 use Rattle.sheet.specs.Rules.{headerOk}

@@ -1,3 +1,4 @@
+-- `is_storage` meets its contract. Beyond the places of the record the definition reads a vertex of role 0.
 use native.Mathlib.Omega.{arith}
 use mathlib.Core.Path.{sym, _∙_, refl}
 use lib.ListN.{length-map}

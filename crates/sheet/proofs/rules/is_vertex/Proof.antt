@@ -1,3 +1,4 @@
+-- `is_vertex` meets its contract.
 use native.Mathlib.Omega.{arith}
 use borrow.Author.Tests.{le-leb}
 use Rattle.sheet.proofs.rules.is_vertex.Statement.{statement}

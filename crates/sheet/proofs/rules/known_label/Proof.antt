@@ -1,3 +1,4 @@
+-- `known_label` meets its contract.
 use borrow.Author.Needs.{needs}
 use Rattle.sheet.proofs.rules.known_label.Statement.{statement}
 use Rattle.sheet.proofs.rules.known_label.Tie as tie

@@ -1,3 +1,4 @@
+-- `known_symbol` meets its contract.
 use borrow.Author.Needs.{needs}
 use Rattle.sheet.proofs.rules.known_symbol.Statement.{statement}
 use Rattle.sheet.proofs.rules.known_symbol.Tie as tie

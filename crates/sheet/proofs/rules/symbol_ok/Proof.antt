@@ -1,3 +1,4 @@
+-- `symbol_ok` meets its contract: f is the place after the form was told, t the one where it was a primed form.
 use mathlib.Core.Path.{sym, _∙_}
 use borrow.Author.Needs.{needs}
 use Rattle.sheet.proofs.RuleSteps.{plain-symbol, primed-symbol, primed-constant, unknown-form}
