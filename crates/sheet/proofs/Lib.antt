@@ -5,6 +5,7 @@ pub mod LineLaws
 pub mod LineSteps
 pub mod RowLaws
 pub mod RuleLaws
+pub mod RuleSteps
 pub mod Places
 pub mod GraphLaws
 pub mod KeyFlagLaws
@@ -13,6 +14,7 @@ pub mod Validity
 pub mod WriteLaws
 pub mod LineInversion
 pub mod BodyInversion
+pub mod BodySteps
 pub mod ReadLaws
 pub mod Progress
 pub mod LoopLaws

@@ -1,5 +1,5 @@
 -- Which values a line may have (numbers 13, 15 and 16).
-use Prim.Native.Nat.{ℕ}
+use Prim.Native.Nat.{ℕ, zero, suc}
 use mathlib.Core.Bool.{Bool, cond, not, _&&_, _||_}
 use lib.Dec.{leb, eqb}
 use Rattle.net.specs.Limits.{mostVertices, mostEdges, mostLetters}
@@ -9,6 +9,8 @@ use Rattle.net.specs.declared.Vertex.{Vertex}
 use Rattle.net.specs.declared.Edge.{Edge}
 use Rattle.net.specs.declared.Net.{Net}
 use Rattle.sheet.specs.declared.Line.{Line}
+use Rattle.sheet.specs.declared.Form.{Form}
+use Rattle.sheet.specs.declared.Form.the-variants.{Plain, Primed, Unknown}
 
 -- at least one vertex, and no count above its limit
 unfoldable pub countsOk : ℕ → ℕ → ℕ → Bool
@@ -25,6 +27,14 @@ vertexOk N x = cond (eqb (x .role) 0) (knownLabel N (decode (x .label))) (leb (x
 -- forms 2 and 3 are those of the primed labels
 abbrev pub primed : ℕ → Bool
 primed form = leb 2 form
+
+-- a form as the code tells it: an edge of form 2 needs a partner of form 1, one of form 3 a partner of form 0
+unfoldable pub formOf : ℕ → Form
+formOf zero = Plain
+formOf (suc zero) = Plain
+formOf (suc (suc zero)) = Primed 1
+formOf (suc (suc (suc zero))) = Primed 0
+formOf (suc (suc (suc (suc f)))) = Unknown
 
 -- the symbol is a constant, a letter of the net or a storage vertex; a primed form has no constant
 unfoldable pub symbolOk : Net → Edge → Bool

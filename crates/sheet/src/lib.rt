@@ -11,9 +11,11 @@ pub mod tests;
 
 use net::Net;
 
+pub mod body; // body.rt: the lines below the header
 pub mod fields; // fields.rt: one field
 pub mod jobs; // jobs.rt: job lines
 pub mod lines; // lines.rt: the five numbers of a line, and one line of a sheet
+pub mod rules; // rules.rt: the values that a line may have
 
 // Lines of five fields, four columns each, ended by byte 10.
 pub struct Sheet;
@@ -66,10 +68,32 @@ pub enum LineRead {
     Refused,
 }
 
+// The form of an edge: a primed one names the form that its partner must have.
+pub enum Form {
+    Plain,
+    Primed(u8),
+    Unknown,
+}
+
 // An answer is 0 or a number of document 01, with a place.
 pub struct Answer {
     pub number: u8,
     pub place: u16,
+}
+
+impl Answer {
+    // A line's value is not allowed.
+    pub const BAD_VERTEX: u8 = 15;
+
+    pub const BAD_EDGE: u8 = 16;
+    // The sheet has no full line of the number asked for.
+    pub const NO_LINE: u8 = 47;
+}
+
+// What one line does to the record: number 0 and the record with it, or the number of a refusal and the record as it was.
+pub struct Added {
+    pub number: u8,
+    pub net: Net,
 }
 
 // What reading a sheet gives: under a number the record is empty.

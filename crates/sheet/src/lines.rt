@@ -6,6 +6,7 @@ ghost use lib.ListN.{length};
 ghost use Rattle.sheet.specs.Limits.{lineWidth, fieldCount};
 ghost use Rattle.sheet.specs.Field.{fieldAnswer};
 ghost use Rattle.sheet.specs.Line.{fieldAt, readLine, lineAnswer, hasLine, sheetLine, lineNumber};
+use crate::Answer;
 use crate::Field;
 use crate::Line;
 use crate::LineRead;
@@ -85,5 +86,5 @@ pub fn line_answer(sheet: &[u8], n: usize) -> u8
     if has_line(sheet, n) {
         return 0;
     }
-    47
+    Answer::NO_LINE
 }

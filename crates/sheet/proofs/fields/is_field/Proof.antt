@@ -1,3 +1,4 @@
+-- `is_field` meets its contract. The columns from i on agree with those of n, and rest is n without the digits to the right (`Agreeing`).
 use Prim.Native.Nat.{_-_}
 use mathlib.Core.Path.{sym, _∙_}
 use borrow.Author.Needs.{needs}

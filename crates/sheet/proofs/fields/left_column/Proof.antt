@@ -1,3 +1,4 @@
+-- `left_column` meets its contract.
 use borrow.Author.Tests.{eq-eqb, ne-eqb}
 use borrow.Author.Needs.{needs}
 use Rattle.sheet.proofs.fields.left_column.Statement.{statement}

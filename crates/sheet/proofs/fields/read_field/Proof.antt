@@ -1,3 +1,4 @@
+-- `read_field` meets its contract: of what `value` and `is_field` ensure, and of a wrong width.
 use native.Mathlib.Omega.{arith}
 use mathlib.Core.Path.{sym, _∙_}
 use borrow.Author.Needs.{needs}

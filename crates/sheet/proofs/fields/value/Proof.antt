@@ -1,3 +1,4 @@
+-- `value` meets its contract. Before column i, n is the number in the columns passed (`Summed`).
 use Prim.Native.Nat.{_-_}
 use native.Mathlib.Omega.{arith}
 use borrow.Author.Needs.{needs}

@@ -1,3 +1,4 @@
+-- `job` meets its contract: t is the place where the line was read, u the one after the test of its kind, w the one after that of its last number.
 use mathlib.Core.Path.{sym, _∙_}
 use borrow.Author.Needs.{needs}
 use Rattle.sheet.proofs.JobLaws.{job-unread, not-job, wrong-fifth, is-job}

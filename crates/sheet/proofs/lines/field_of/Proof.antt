@@ -1,3 +1,4 @@
+-- `field_of` meets its contract: the part that it hands on is the field.
 use borrow.Author.Needs.{needs}
 use Rattle.sheet.specs.Line.{fieldAt}
 use Rattle.sheet.proofs.LineSteps.{part}

@@ -1,3 +1,4 @@
+-- `has_line` meets its contract: n lines fit exactly if n is at most the quotient.
 use mathlib.Core.Path.{sym}
 use Rattle.sheet.proofs.LineSteps.{no-line-0, line-by-division}
 use Rattle.sheet.proofs.lines.has_line.Statement.{statement}

@@ -1,3 +1,4 @@
+-- `line` meets its contract. Where the sheet has the line, its part lies within the sheet.
 use native.Mathlib.Omega.{arith}
 use mathlib.Core.Path.{sym, _∙_}
 use borrow.Author.Tests.{not-true, not-false}

@@ -1,3 +1,4 @@
+-- `line_answer` meets its contract.
 use mathlib.Core.Path.{sym, _∙_}
 use borrow.Author.Needs.{needs}
 use Rattle.sheet.specs.Line.{lineNumber}

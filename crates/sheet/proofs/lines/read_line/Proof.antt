@@ -1,3 +1,4 @@
+-- `read_line` meets its contract: k0, k1, .. are the places where field 0, 1, .. was a number, and z the one after the tests of length and end.
 use mathlib.Core.Path.{sym, _∙_}
 use borrow.Author.Needs.{needs}
 use Rattle.sheet.proofs.LineSteps.{wrong-length, wrong-end, field-0, field-1, field-2, field-3, field-4, all-fields}
