@@ -4,8 +4,8 @@ use native.Mathlib.Numerals.{add-one}
 use mathlib.Core.Path.{_≡_, refl, ap, _∙_}
 use mathlib.Core.Bool.{Bool, true, false}
 use mathlib.Core.List.{List, []}
-use lib.ListN.{length, drop, getD, drop-of-length-le}
-use lib.Seq.{drop-cons}
+use lib.ListN.{length, take, drop, getD, drop-of-length-le}
+use lib.Seq.{drop-cons, getD-take, length-take-le}
 use Rattle.sheet.specs.Valid.{allOf}
 
 module _ {A : Type 0} (p : A → Bool) (l : List A) (i : ℕ) where
@@ -23,3 +23,14 @@ module _ {A : Type 0} (p : A → Bool) (l : List A) (i : ℕ) where
   pub all-end : length l ≤ i → allOf p (drop i l) ≡ true
   unfolding allOf
   all-end h = rw (drop-of-length-le l h)
+
+-- the same over the first k elements of a longer list
+module _ {A : Type 0} (p : A → Bool) (l : List A) (k i : ℕ) (long : k ≤ length l) where
+  pub taken-on : (d : A) → i < k → p (getD l i d) ≡ true → allOf p (drop (i + 1) (take k l)) ≡ allOf p (drop i (take k l))
+  taken-on d h t = all-on p (take k l) i d (rw (length-take-le k l long) h) (rw (getD-take k l i d h) t)
+
+  pub taken-stop : (d : A) → i < k → p (getD l i d) ≡ false → allOf p (drop i (take k l)) ≡ false
+  taken-stop d h t = all-stop p (take k l) i d (rw (length-take-le k l long) h) (rw (getD-take k l i d h) t)
+
+  pub taken-end : k ≤ i → allOf p (drop i (take k l)) ≡ true
+  taken-end h = all-end p (take k l) i (rw (length-take-le k l long) h)

@@ -16,6 +16,7 @@ pub mod LineInversion
 pub mod BodyInversion
 pub mod BodySteps
 pub mod ReadLaws
+pub mod CheckedLaws
 pub mod Progress
 pub mod LoopLaws
 pub mod Outcome

@@ -2,9 +2,11 @@
 
 ghost use mathlib.Core.Path.{_≡_};
 ghost use Prim.Native.Nat.{_≤_};
-ghost use lib.ListN.{drop};
+ghost use lib.ListN.{take, drop};
 ghost use Rattle.net.specs.Limits.{mostVertices, mostEdges};
+ghost use Rattle.sheet.specs.Rules.{vertexOk, edgeOk};
 ghost use Rattle.sheet.specs.Valid.{allOf, isNoVertex, isNoEdge};
+use crate::rules;
 use crate::tests::both;
 use net::Edge;
 use net::Net;
@@ -48,6 +50,38 @@ pub fn spare_edges_zero(net: Net) -> bool
     let mut i = net.edge_count as usize;
     while i < Net::MOST_EDGES {
         if !is_no_edge(net.edges[i]) {
+            return false;
+        }
+        i += 1;
+    }
+    true
+}
+
+// Are the values of every vertex in use allowed?
+pub fn vertices_ok(net: Net) -> bool
+    requires { ⌜ net .«vertex_count» ≤ mostVertices ⌝ }
+    ensures { λ r. ⌜ r ≡ allOf (vertexOk net) (take (net .«vertex_count») (net .vertices)) ⌝ }
+{
+    let count = net.vertex_count as usize;
+    let mut i: usize = 0;
+    while i < count {
+        if !rules::vertex_ok(net, net.vertices[i]) {
+            return false;
+        }
+        i += 1;
+    }
+    true
+}
+
+// Are the values of every edge in use allowed?
+pub fn edges_ok(net: Net) -> bool
+    requires { ⌜ net .«edge_count» ≤ mostEdges ⌝ }
+    ensures { λ r. ⌜ r ≡ allOf (edgeOk net) (take (net .«edge_count») (net .edges)) ⌝ }
+{
+    let count = net.edge_count as usize;
+    let mut i: usize = 0;
+    while i < count {
+        if !rules::edge_ok(net, net.edges[i]) {
             return false;
         }
         i += 1;
