@@ -1,6 +1,6 @@
 -- Flags: a list of n digits that holds the answers of a test. Assumes nothing.
-use mathlib.Core.Path.{_≡_, sym, ap, subst, _∙_}
-use mathlib.Core.Bool.{Bool, false}
+use mathlib.Core.Path.{_≡_, refl, sym, ap, subst, _∙_}
+use mathlib.Core.Bool.{Bool, true, false, _&&_, _||_}
 use mathlib.Core.Logic.{_≢_}
 use mathlib.Core.List.{List}
 use Prim.Native.Nat.{ℕ, _<_}
@@ -14,6 +14,18 @@ use Rattle.ternary.specs.Lists.{table}
 use Rattle.ternary.proofs.Tests.{by-test}
 use Rattle.ternary.proofs.ListLaws.{length-table, getD-table}
 use Rattle.net.proofs.Filling.{zeros, zeros-read}
+
+pub and-false-right : (b : Bool) → (b && false) ≡ false
+and-false-right true = refl
+and-false-right false = refl
+
+pub or-true-right : (b : Bool) → (b || true) ≡ true
+or-true-right true = refl
+or-true-right false = refl
+
+pub or-false-right : (b : Bool) → (b || false) ≡ b
+or-false-right true = refl
+or-false-right false = refl
 
 pub record Flagged (n : ℕ) (p : ℕ → Bool) (r : List ℕ) : Type 0 where
   pub size : length r ≡ n

@@ -1,6 +1,6 @@
 -- The key nodes that the first n edges show.
-use mathlib.Core.Path.{_≡_, refl, sym, ap, _∙_}
-use mathlib.Core.Bool.{Bool, true, false, _&&_, _||_}
+use mathlib.Core.Path.{_≡_, sym, ap, _∙_}
+use mathlib.Core.Bool.{Bool, true, false, _&&_}
 use mathlib.Core.Logic.{_≢_}
 use mathlib.Core.List.{List}
 use Prim.Native.Nat.{ℕ, zero, suc, _+_, _-_, _<_, _≤_}
@@ -25,15 +25,7 @@ use Rattle.net.proofs.Keys.{key-storage}
 use Rattle.net.proofs.Counting.{count-table, count-above}
 use Rattle.net.proofs.TableLaws.{no-vertex-0}
 use Rattle.net.proofs.Filling.{zeros}
-use Rattle.net.proofs.Flags.{Flagged, flags-none, flags-store, flags-table}
-
-or-true-right : (b : Bool) → (b || true) ≡ true
-or-true-right true = refl
-or-true-right false = refl
-
-or-false-right : (b : Bool) → (b || false) ≡ b
-or-false-right true = refl
-or-false-right false = refl
+use Rattle.net.proofs.Flags.{or-true-right, or-false-right, Flagged, flags-none, flags-store, flags-table}
 
 pub vertex-of-range : (s : ℕ) → vertexOf (decode s) ≤ mostVertices
 vertex-of-range s = decode-by (λ x. vertexOf x ≤ mostVertices) s (λ _. omega arith) (λ _ _. omega arith) (λ l h. omega arith) (omega arith)

@@ -10,6 +10,7 @@ pub mod TableLaws
 pub mod Flags
 pub mod Counting
 pub mod KeyFlags
+pub mod SignalFlags
 pub mod Reach
 pub mod Connected
 pub mod Fights

@@ -88,6 +88,13 @@ module _ (N : Net) where
       ∙ digit-test (ltb i (N .«edge_count») && inner N (edgeAt N i))
       ∙ rw (lt-ltb i (N .«edge_count») l) refl
 
+  -- the walk over the tables of ends is the walk over the edges
+  pub edge-classes : (flags : List ℕ) (test : ℕ → Bool) (n : ℕ) → n ≤ mostEdges → ((i : ℕ) → i < n → eqb (getD flags i 0) 1 ≡ test i)
+      → classes (suc mostVertices) (λ i. getD (firstEnds N) i 0) (λ i. getD (secondEnds N) i 0) (λ i. eqb (getD flags i 0) 1) n
+      ≡ classes (suc mostVertices) (λ i. (edgeAt N i) .end1) (λ i. (edgeAt N i) .end2) test n
+  edge-classes flags test n h e =
+      classes-ext (suc mostVertices) _ _ _ _ _ _ n (λ i l. first-read i (omega arith)) (λ i l. second-read i (omega arith)) e
+
   module _ (readable : Readable N) where
     -- the tables of a net's edges are fit for the walk
     pub joinable : Joinable (firstEnds N) (secondEnds N) (innerFlags N) (N .«edge_count»)
@@ -102,15 +109,18 @@ module _ (N : Net) where
     pub walk-labels : classes (suc mostVertices) (λ i. getD (firstEnds N) i 0) (λ i. getD (secondEnds N) i 0) (λ i. eqb (getD (innerFlags N) i 0) 1) (N .«edge_count») ≡ componentLabels N
     unfolding componentLabels
     walk-labels =
-        classes-ext (suc mostVertices) _ _ _ _ _ _ (N .«edge_count»)
-        (λ i l. first-read i (omega (arith, readable .edges)))
-        (λ i l. second-read i (omega (arith, readable .edges)))
+        edge-classes (innerFlags N) (λ i. inner N (edgeAt N i)) (N .«edge_count») (readable .edges)
         (λ i l. inner-test i l (omega (arith, readable .edges)))
 
-  -- the labels of the vertices in use
+  -- the walk over the edges that pass a test labels the vertices in use as `labels` says
+  pub labels-in-use : (on : ℕ → Bool) (n : ℕ) → N .«vertex_count» ≤ mostVertices
+      → take (suc (N .«vertex_count»)) (classes (suc mostVertices) (λ i. (edgeAt N i) .end1) (λ i. (edgeAt N i) .end2) (λ i. on i && inner N (edgeAt N i)) n) ≡ labels N on n
+  unfolding labels
+  labels-in-use on n h =
+      take-classes (suc (N .«vertex_count»)) (suc mostVertices) _ _ _ (omega arith) n
+      (λ i _ e. storage-range N _ (inner-end1 N on i e))
+      (λ i _ e. storage-range N _ (inner-end2 N on i e))
+
   pub component-labels-in-use : N .«vertex_count» ≤ mostVertices → take (suc (N .«vertex_count»)) (componentLabels N) ≡ components N
-  unfolding componentLabels labels
-  component-labels-in-use h =
-      take-classes (suc (N .«vertex_count»)) (suc mostVertices) _ _ _ (omega arith) (N .«edge_count»)
-      (λ i _ e. storage-range N _ (inner-end1 N everyEdge i e))
-      (λ i _ e. storage-range N _ (inner-end2 N everyEdge i e))
+  unfolding componentLabels
+  component-labels-in-use = labels-in-use everyEdge (N .«edge_count»)

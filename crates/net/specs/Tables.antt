@@ -1,18 +1,20 @@
 -- What the code keeps of a net in arrays of bytes: an entry for each edge, or for each vertex number from 0.
 use Prim.Native.Nat.{ℕ, suc, _≤_, _<_}
-use mathlib.Core.Bool.{_&&_}
+use mathlib.Core.Bool.{Bool, cond, _&&_}
 use mathlib.Core.List.{List}
 use mathlib.Core.Path.{_≡_}
 use lib.Dec.{ltb}
-use lib.ListN.{getD}
+use lib.ListN.{getD, set, take}
 use Rattle.ternary.specs.Bits.{digit}
 use Rattle.ternary.specs.Lists.{table}
 use Rattle.net.specs.declared.Net.{Net}
 use Rattle.net.specs.declared.Symbol.{Symbol}
 use Rattle.net.specs.declared.Symbol.the-variants.{Constant, Letter, Vertex, Unknown}
 use Rattle.net.specs.Limits.{mostVertices, mostEdges}
-use Rattle.net.specs.Graph.{edgeAt, isStorage, isKey}
+use Rattle.net.specs.Graph.{vertexAt, edgeAt, isInput, isStorage, isKey}
+use Rattle.net.specs.Symbols.{decode, isVariable, symbolBound}
 use Rattle.net.specs.Classes.{classes, inner}
+use Rattle.net.specs.Component.{components, isSignal}
 
 -- the first n edges fit a table of edges, and those that count have their ends in a table of vertices
 pub record Joinable (first second on : List ℕ) (n : ℕ) : Type 0 where
@@ -56,3 +58,25 @@ vertexOf Unknown = 0
 -- 1 at each key node
 unfoldable pub keyFlags : Net → List ℕ
 keyFlags N = table (suc mostVertices) (λ v. digit (isKey N v))
+
+-- the tables that a net's functions share: flags of storage vertices, and labels that begin with the components'
+pub record Prepared (N : Net) (storage labels : List ℕ) : Type 0 where
+  pub readable : Readable N
+  pub flags : storage ≡ storageFlags N
+  pub labelled : take (suc (N .«vertex_count»)) labels ≡ components N
+
+-- the label of each input vertex; elsewhere 0, a constant's symbol
+unfoldable pub inputLabels : Net → List ℕ
+inputLabels N = table (suc mostVertices) (λ x. cond (isInput N x) ((vertexAt N x) .label) 0)
+
+-- flags by symbol number: a variable's is set, and a constant's is not
+unfoldable pub markSymbol : ℕ → List ℕ → List ℕ
+markSymbol s flags = cond (isVariable (decode s)) (set flags s 1) flags
+
+-- what one end of an edge adds: if it belongs to the component, the edge's symbol s and the label l at the other end
+unfoldable pub markEnd : Bool → ℕ → ℕ → List ℕ → List ℕ
+markEnd member s l flags = cond member (markSymbol l (markSymbol s flags)) flags
+
+-- 1 at each signal of the component of y, by symbol number
+unfoldable pub signalFlags : Net → ℕ → List ℕ
+signalFlags N y = table symbolBound (λ s. digit (isSignal N (components N) y s))

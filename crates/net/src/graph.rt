@@ -8,8 +8,8 @@ ghost use Prim.Native.Nat.{suc, _≤_};
 ghost use lib.Dec.{eqb};
 ghost use lib.ListN.{length, getD, take};
 ghost use Rattle.ternary.specs.Bits.{digit};
-ghost use Rattle.ternary.specs.Lists.{table, countBelow};
-ghost use Rattle.net.specs.Limits.{mostVertices, mostEdges};
+ghost use Rattle.ternary.specs.Lists.{countBelow};
+ghost use Rattle.net.specs.Limits.{mostVertices};
 ghost use Rattle.net.specs.Graph.{keyCount};
 ghost use Rattle.net.specs.Component.{components};
 ghost use Rattle.net.specs.Tables.{Readable, storageFlags, firstEnds, secondEnds, innerFlags, componentLabels, keyFlags};
@@ -36,6 +36,7 @@ pub fn storage_flags(net: Net) -> [u8; Net::VERTEX_PLACES]
     flags
 }
 
+// The first end of each edge, in use or not.
 pub fn first_ends(net: Net) -> [u8; Net::MOST_EDGES]
     ensures { λ r. ⌜ r ≡ firstEnds net ⌝ }
 {
@@ -46,6 +47,7 @@ pub fn first_ends(net: Net) -> [u8; Net::MOST_EDGES]
     ends
 }
 
+// And the second.
 pub fn second_ends(net: Net) -> [u8; Net::MOST_EDGES]
     ensures { λ r. ⌜ r ≡ secondEnds net ⌝ }
 {
@@ -79,7 +81,7 @@ pub fn inner_flags(net: Net, storage: &[u8; Net::VERTEX_PLACES]) -> [u8; Net::MO
     flags
 }
 
-// The label of each vertex's component.
+// The label of each vertex's component: the walk over the edges that join storage vertices.
 pub fn component_labels(net: Net, storage: &[u8; Net::VERTEX_PLACES]) -> [u8; Net::VERTEX_PLACES]
     requires { ⌜ Readable net × (now storage ≡ storageFlags net) ⌝ }
     ensures { λ r. ⌜ (r ≡ componentLabels net) × (take (suc (net .«vertex_count»)) r ≡ components net) ⌝ }
@@ -96,13 +98,13 @@ pub fn key_flags(net: Net, storage: &[u8; Net::VERTEX_PLACES]) -> [u8; Net::VERT
     requires { ⌜ Readable net × (now storage ≡ storageFlags net) ⌝ }
     ensures { λ r. ⌜ r ≡ keyFlags net ⌝ }
 {
-    let mut flags = [0u8; Net::VERTEX_PLACES];
+    let mut keys = [0u8; Net::VERTEX_PLACES];
     let count = net.edge_count as usize;
-    for i in 0..count {
-        let v = symbols::vertex_of(symbols::decoded(net.edges[i].symbol));
-        flags[v as usize] = storage[v as usize];
+    for k in 0..count {
+        let v = symbols::vertex_of(symbols::decoded(net.edges[k].symbol));
+        keys[v as usize] = storage[v as usize];
     }
-    flags
+    keys
 }
 
 // How many flags are 1.

@@ -2,6 +2,7 @@
 //! What a net means stands in specs/, the laws of it in proofs/.
 
 pub mod graph;
+pub mod signals;
 pub mod symbols;
 pub mod walk;
 
@@ -69,6 +70,8 @@ impl Symbol {
     pub const FIRST_VERTEX: u16 = Symbol::VERTICES + 1;
 
     pub const LAST_VERTEX: u16 = Symbol::VERTICES + Net::MOST_VERTICES as u16;
+    // Every variable's number is below this one.
+    pub const BOUND: usize = Symbol::LAST_VERTEX as usize + 1;
 }
 
 // The condition of an edge under a state.

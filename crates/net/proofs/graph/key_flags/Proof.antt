@@ -1,4 +1,4 @@
--- `net::graph::key_flags` meets its contract: the flags are those of the key nodes that the first i edges show. Assumes nothing.
+-- `net::graph::key_flags` meets its contract: the flags are those of the key nodes that the first k edges show. Assumes nothing.
 use native.Mathlib.Omega.{arith}
 use borrow.Author.Needs.{needs}
 use mathlib.Core.Path.{_≡_, ap, _∙_}
@@ -14,13 +14,13 @@ use Rattle.net.proofs.graph.key_flags.Statement.{statement}
 use Rattle.net.proofs.graph.key_flags.Tie as tie
 
 abbrev Inv-loop : tie.InvT-loop
-Inv-loop storage net flags₀ count i₀ flags i = (i ≤ count) × Flagged (suc mostVertices) (keyAmong net i) flags
+Inv-loop storage net keys₀ count k₀ keys k = (k ≤ count) × Flagged (suc mostVertices) (keyAmong net k) keys
 
 abbrev μ-loop : tie.MeasureT-loop
-μ-loop storage net flags₀ count i₀ flags i = count - i
+μ-loop storage net keys₀ count k₀ keys k = count - k
 
--- the vertex of edge i's symbol
-marks : (c : tie.After-vertex-of Inv-loop μ-loop) → c .vertex-of .result ≡ vertexOf (decode ((edgeAt (c .before .before .before .before .args .t1) (c .before .before .before .loop .i)) .symbol))
+-- the vertex of edge k's symbol
+marks : (c : tie.After-vertex-of Inv-loop μ-loop) → c .vertex-of .result ≡ vertexOf (decode ((edgeAt (c .before .before .before .before .args .t1) (c .before .before .before .loop .k)) .symbol))
 unfolding edgeAt
 marks c = c .vertex-of .ensures ∙ ap vertexOf (c .before .decoded .ensures)
 
@@ -45,20 +45,20 @@ decoded-requires c κs = search needs
 vertex-of-requires : tie.Need-vertex-of-requires Inv-loop μ-loop
 vertex-of-requires c κs = search needs
 
-cast-flags : tie.Need-cast-flags Inv-loop μ-loop
-cast-flags c = omega (arith, in-table c)
+cast-keys : tie.Need-cast-keys Inv-loop μ-loop
+cast-keys c = omega (arith, in-table c)
 
-element-copy-out-flags : tie.Need-element-copy-out-flags Inv-loop μ-loop
-element-copy-out-flags c = omega (arith, in-table c)
+element-copy-out-keys : tie.Need-element-copy-out-keys Inv-loop μ-loop
+element-copy-out-keys c = omega (arith, in-table c)
 
-cast-flags-2 : tie.Need-cast-flags-2 Inv-loop μ-loop
-cast-flags-2 c = omega (arith, in-table (c .before))
+cast-keys-2 : tie.Need-cast-keys-2 Inv-loop μ-loop
+cast-keys-2 c = omega (arith, in-table (c .before))
 
-array-write-flags : tie.Need-array-write-flags Inv-loop μ-loop
-array-write-flags c = omega (arith, in-table (c .before))
+array-write-keys : tie.Need-array-write-keys Inv-loop μ-loop
+array-write-keys c = omega (arith, in-table (c .before))
 
-add-i : tie.Need-add-i Inv-loop μ-loop
-add-i c = search needs
+add-k : tie.Need-add-k Inv-loop μ-loop
+add-k c = search needs
 
 loop-less : tie.Need-loop-less Inv-loop μ-loop
 loop-less c = search needs
@@ -69,12 +69,12 @@ loop-again c =
     let s = t .before .before in (
       search needs,
       rw (marks (c .before))
-          (key-step (s .args .t1) (s .pre .0 .vertices) (t .before .loop .i) _ (t .before .loop .inv .1)
+          (key-step (s .args .t1) (s .pre .0 .vertices) (t .before .loop .k) _ (t .before .loop .inv .1)
           (storage-read (s .args .t1) (s .args .storage .now) (s .pre .1) _ (vertex-of-range _))),
     )
 
 returns : tie.Need-returns Inv-loop μ-loop
-returns c = let q : c .before .loop .i ≡ c .before .before .args .t1 .«edge_count» = omega arith in keys-all _ (rw q at (c .before .loop .inv .1))
+returns c = let q : c .before .loop .k ≡ c .before .before .args .t1 .«edge_count» = omega arith in keys-all _ (rw q at (c .before .loop .inv .1))
 
 pub key-flags-spec : {M : Type 1} → statement M
 key-flags-spec =
@@ -88,11 +88,11 @@ key-flags-spec =
     element-copy-out-decoded
     decoded-requires
     vertex-of-requires
-    cast-flags
-    element-copy-out-flags
-    cast-flags-2
-    array-write-flags
-    add-i
+    cast-keys
+    element-copy-out-keys
+    cast-keys-2
+    array-write-keys
+    add-k
     loop-less
     loop-again
     returns)
