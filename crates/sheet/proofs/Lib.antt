@@ -9,6 +9,7 @@ pub mod RuleSteps
 pub mod Places
 pub mod GraphLaws
 pub mod KeyFlagLaws
+pub mod OverSignalLaws
 pub mod AllLaws
 pub mod Validity
 pub mod WriteLaws
@@ -19,6 +20,9 @@ pub mod ReadLaws
 pub mod CheckedLaws
 pub mod Progress
 pub mod LoopLaws
+pub mod ReaderSteps
+pub mod HeaderSteps
+pub mod RecordSteps
 pub mod Outcome
 pub mod Known
 pub mod JobLaws

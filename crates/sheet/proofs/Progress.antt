@@ -2,7 +2,7 @@
 use Prim.Native.Nat.{ℕ, suc, _+_, _-_, _≤_, _<_}
 use native.Mathlib.Numerals.{add-one}
 use native.Mathlib.Omega.{arith}
-use mathlib.Core.Path.{_≡_, refl, subst, _∙_}
+use mathlib.Core.Path.{_≡_, refl, sym, ap, subst, _∙_}
 use mathlib.Core.Bool.{Bool, true, false, cond, true≢false}
 use mathlib.Core.List.{List}
 use mathlib.Core.Logic.{_⊎_, inl, inr}
@@ -86,6 +86,23 @@ module _ (N : Net) (j : ℕ) (s : SoFar N j) where
           → cond b (next (withEdges N (set (N .edges) (j - N .«vertex_count») (edgeOf v)))) (stop 16) ≡ next N′ → SoFar N′ (j + 1)
       edge-case l true ok e = subst (λ (M : Net). SoFar M (j + 1)) (cc) (edge-added (edgeOf v) l h (search ands))
       edge-case l false ok e = absurd (true≢false (cc))
+
+  -- and its counts
+  pub counts-kept : (v : Line) (N′ : Net) → addLine N j v ≡ next N′ → N′ .«vertex_count» + N′ .«edge_count» ≡ N .«vertex_count» + N .«edge_count»
+  unfolding addLine
+  counts-kept v N′ = go (ltb j (N .«vertex_count»)) (vertexLineOk N j v) (edgeLineOk N v)
+    where
+      size : Net → ℕ
+      size M = M .«vertex_count» + M .«edge_count»
+
+      go : (b c d : Bool)
+          → cond b (cond c (next (withVertices N (set (N .vertices) j (vertexOf v)))) (stop 15))
+          (cond d (next (withEdges N (set (N .edges) (j - N .«vertex_count») (edgeOf v)))) (stop 16)) ≡ next N′
+          → size N′ ≡ size N
+      go true true d e = let same : withVertices N (set (N .vertices) j (vertexOf v)) ≡ N′ = cc in ap size (sym same)
+      go true false d e = absurd (true≢false (cc))
+      go false c true e = let same : withEdges N (set (N .edges) (j - N .«vertex_count») (edgeOf v)) ≡ N′ = cc in ap size (sym same)
+      go false c false e = absurd (true≢false (cc))
 
   -- a record with all its lines is checked
   pub all-added : j ≡ N .«vertex_count» + N .«edge_count» → Checked N

@@ -86,7 +86,7 @@ unfoldable pub positive : List Row → Bool
 positive [] = true
 positive (r ∷ rs) = leb 1 (r .number) && positive rs
 
-positive-first : {rs : List Row} {n p : ℕ} → positive rs ≡ true → First rs n p → 1 ≤ n
+pub positive-first : {rs : List Row} {n p : ℕ} → positive rs ≡ true → First rs n p → 1 ≤ n
 unfolding positive
 positive-first t (here {r = r} h) = leb-true 1 (r .number) (search ands)
 positive-first t (later h f) = positive-first (search ands) f

@@ -4,13 +4,17 @@ ghost use mathlib.Core.Path.{_≡_};
 ghost use Prim.Native.Nat.{ℕ, _≤_, _<_};
 ghost use Rattle.ternary.specs.Lists.{anyBelow};
 ghost use Rattle.net.specs.Limits.{mostVertices, mostEdges};
-ghost use Rattle.net.specs.Tables.{keyFlags};
+ghost use Rattle.net.specs.Tables.{keyFlags, Prepared};
 ghost use Rattle.net.specs.Graph.{edgeAt};
-ghost use Rattle.sheet.specs.Graph.{isPartner, lacksPartner, partnerPlace, keyPlace, foundOf};
+ghost use Rattle.sheet.specs.Rows.{firstRow, answered};
+ghost use Rattle.sheet.specs.Checked.{Checked};
+ghost use Rattle.sheet.specs.Graph.{isPartner, lacksPartner, partnerPlace, keyPlace, overSignals, signalPlace, graphRows, foundOf};
+use crate::Answer;
 use crate::tests::both;
 use crate::tests::either;
 use net::Edge;
 use net::Net;
+use net::signals;
 
 // The place of a row, if its condition holds.
 pub enum Found {
@@ -97,4 +101,92 @@ pub fn key_place(net: Net, keys: &[u8; Net::VERTEX_PLACES]) -> Found
         v += 1;
     }
     Found::Nothing
+}
+
+// Has the component of vertex y too many signals?
+pub fn over_signals<'a>(
+    net: Net,
+    storage: &'a [u8; Net::VERTEX_PLACES],
+    labels: &'a [u8; Net::VERTEX_PLACES],
+    y: u8,
+) -> bool
+    requires { ⌜ Prepared net (now storage) (now labels) × (y ≤ mostVertices) ⌝ }
+    ensures { λ r. ⌜ r ≡ overSignals net y ⌝ }
+{
+    if storage[y as usize] != 1 {
+        return false;
+    }
+    Net::MOST_SIGNALS < signals::signal_count(net, storage, labels, y)
+}
+
+// The lowest vertex of a component with too many signals.
+pub fn signal_place<'a>(
+    net: Net,
+    storage: &'a [u8; Net::VERTEX_PLACES],
+    labels: &'a [u8; Net::VERTEX_PLACES],
+) -> Found
+    requires { ⌜ Prepared net (now storage) (now labels) ⌝ }
+    ensures { λ r. ⌜ r ≡ foundOf (signalPlace net) ⌝ }
+{
+    let last = net.vertex_count;
+    let mut y: u8 = 0;
+    while y <= last {
+        if over_signals(net, storage, labels, y) {
+            return Found::At(y as u16);
+        }
+        y += 1;
+    }
+    Found::Nothing
+}
+
+// Row 22 from the record.
+pub fn key_row(net: Net) -> Found
+    requires { ⌜ Checked net ⌝ }
+    ensures { λ r. ⌜ r ≡ foundOf (keyPlace net) ⌝ }
+{
+    let storage = net::graph::storage_flags(net);
+    let keys = net::graph::key_flags(net, &storage);
+    key_place(net, &keys)
+}
+
+// Row 23 from the record.
+pub fn signal_row(net: Net) -> Found
+    requires { ⌜ Checked net ⌝ }
+    ensures { λ r. ⌜ r ≡ foundOf (signalPlace net) ⌝ }
+{
+    let storage = net::graph::storage_flags(net);
+    let labels = net::graph::component_labels(net, &storage);
+    signal_place(net, &storage, &labels)
+}
+
+// The first of the rows over the graph.
+pub fn graph_answer(net: Net) -> Answer
+    requires { ⌜ Checked net ⌝ }
+    ensures { λ r. ⌜ r ≡ answered (firstRow (graphRows net)) ⌝ }
+{
+    let partner = partner_place(net);
+    if let Found::At(place) = partner {
+        return Answer {
+            number: Answer::NO_PARTNER,
+            place,
+        };
+    }
+    let key = key_row(net);
+    if let Found::At(place) = key {
+        return Answer {
+            number: Answer::MANY_KEY_NODES,
+            place,
+        };
+    }
+    let signal = signal_row(net);
+    if let Found::At(place) = signal {
+        return Answer {
+            number: Answer::MANY_SIGNALS,
+            place,
+        };
+    }
+    Answer {
+        number: 0,
+        place: 0,
+    }
 }

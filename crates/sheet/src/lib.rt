@@ -82,10 +82,23 @@ pub struct Answer {
 }
 
 impl Answer {
+    pub const BAD_LENGTH: u8 = 11;
+    // Not five fields.
+    pub const BAD_LINE: u8 = 12;
+
+    pub const BAD_HEADER: u8 = 13;
+
+    pub const BAD_LINE_COUNT: u8 = 14;
     // A line's value is not allowed.
     pub const BAD_VERTEX: u8 = 15;
 
     pub const BAD_EDGE: u8 = 16;
+    // The rows over the graph.
+    pub const NO_PARTNER: u8 = 21;
+
+    pub const MANY_KEY_NODES: u8 = 22;
+
+    pub const MANY_SIGNALS: u8 = 23;
     // The sheet has no full line of the number asked for.
     pub const NO_LINE: u8 = 47;
 }

@@ -5,7 +5,8 @@ ghost use Prim.Native.Nat.{_≤_};
 ghost use lib.ListN.{take, drop};
 ghost use Rattle.net.specs.Limits.{mostVertices, mostEdges};
 ghost use Rattle.sheet.specs.Rules.{vertexOk, edgeOk};
-ghost use Rattle.sheet.specs.Valid.{allOf, isNoVertex, isNoEdge};
+ghost use Rattle.sheet.specs.Valid.{allOf, isNoVertex, isNoEdge, valid};
+use crate::graph;
 use crate::rules;
 use crate::tests::both;
 use net::Edge;
@@ -87,4 +88,30 @@ pub fn edges_ok(net: Net) -> bool
         i += 1;
     }
     true
+}
+
+// Is the record one that some accepted sheet gives? Each test may count on those before it.
+pub fn is_record(net: Net) -> bool
+    ensures { λ r. ⌜ r ≡ valid net ⌝ }
+{
+    if !rules::counts_ok(
+        net.vertex_count as usize,
+        net.edge_count as usize,
+        net.letter_count as usize,
+    ) {
+        return false;
+    }
+    if !vertices_ok(net) {
+        return false;
+    }
+    if !spare_vertices_zero(net) {
+        return false;
+    }
+    if !edges_ok(net) {
+        return false;
+    }
+    if !spare_edges_zero(net) {
+        return false;
+    }
+    graph::graph_answer(net).number == 0
 }

@@ -1,0 +1,93 @@
+-- What the reader's loop knows of a line from the answers of the functions that it calls.
+use Prim.Native.Nat.{ℕ, _+_, _-_, _≤_}
+use native.Mathlib.Omega.{arith}
+use mathlib.Core.Path.{_≡_, refl, sym, ap, _∙_}
+use mathlib.Core.Bool.{true, true≢false}
+use mathlib.Core.List.{List}
+use mathlib.Core.Logic.{_≢_}
+use mathlib.Core.Option.{Option, none, some}
+use lib.Dec.{ltb}
+use lib.ListN.{take, drop}
+use Rattle.net.specs.declared.Net.{Net}
+use Rattle.ternary.proofs.Tests.{cond-by}
+use Rattle.sheet.specs.declared.Added.{Added}
+use Rattle.sheet.specs.declared.Answer.{Answer}
+use Rattle.sheet.specs.declared.Line.{Line}
+use Rattle.sheet.specs.declared.LineRead.{LineRead}
+use Rattle.sheet.specs.declared.LineRead.the-variants.{Five, Refused}
+use Rattle.sheet.specs.Limits.{lineWidth}
+use Rattle.sheet.specs.Line.{readLine, lineAnswer}
+use Rattle.sheet.specs.Rows.{firstRow, answered}
+use Rattle.sheet.specs.Record.{refused, accepted}
+use Rattle.sheet.specs.Graph.{graphRows}
+use Rattle.sheet.specs.Reading.{Step, vertexLineOk, edgeLineOk, addLine, addedOf, stepLine, conclude}
+use Rattle.sheet.specs.Reading.Step.{next, stop}
+use Rattle.sheet.proofs.RowLaws.{positive, answered-zero, first-none}
+
+pub line-none : (o : Option Line) → lineAnswer o ≡ Refused → o ≡ none
+line-none none e = refl
+line-none (some v) e = absurd (true≢false (cc))
+
+pub line-some : (o : Option Line) (v : Line) → lineAnswer o ≡ Five v → o ≡ some v
+line-some none v e = absurd (true≢false (cc))
+line-some (some u) v e = ap some (cc)
+
+-- the part of the sheet that is lent
+abbrev pub lent : List ℕ → ℕ → List ℕ
+lent b at = take (at + lineWidth - at) (drop at b)
+
+module _ (b : List ℕ) (at j : ℕ) (N : Net) where
+  whole-line : lent b at ≡ take lineWidth (drop at b)
+  whole-line = let n : at + lineWidth - at ≡ lineWidth = omega arith in rw n
+
+  -- it is not five fields
+  pub not-fields : lineAnswer (readLine (lent b at)) ≡ Refused → stepLine (readLine (take lineWidth (drop at b))) j N ≡ stop 12
+  unfolding stepLine
+  not-fields e = rw (line-none (readLine (take lineWidth (drop at b))) (rw whole-line at e))
+
+  module _ (v : Line) (five : lineAnswer (readLine (lent b at)) ≡ Five v) where
+    step-is : stepLine (readLine (take lineWidth (drop at b))) j N ≡ addLine N j v
+    unfolding stepLine
+    step-is = rw (line-some (readLine (take lineWidth (drop at b))) v (rw whole-line at five))
+
+    -- its values are refused
+    pub line-stops : (r : Added) → r ≡ addedOf N (addLine N j v) → r .number ≢ 0 → stepLine (readLine (take lineWidth (drop at b))) j N ≡ stop (r .number)
+    line-stops r e ne = step-is ∙ go (addLine N j v) e
+      where
+        go : (s : Step) → r ≡ addedOf N s → s ≡ stop (r .number)
+        go (next M) f = absurd (ne (ap (λ (x : Added). x .number) f))
+        go (stop n) f = ap stop (sym (ap (λ (x : Added). x .number) f))
+
+    -- it is added
+    pub line-goes-on : (r : Added) → r ≡ addedOf N (addLine N j v) → r .number ≡ 0 → addLine N j v ≡ next (r .net)
+    unfolding addLine
+    line-goes-on r e zero =
+        let number : (addedOf N (addLine N j v)) .number ≡ 0 = ap (λ (x : Added). x .number) (sym e) ∙ zero in
+        cond-by Goes (ltb j (N .«vertex_count»))
+        (λ _. cond-by Goes (vertexLineOk N j v) (λ _ _. refl) (λ _ n. absurd (omega arith)))
+        (λ _. cond-by Goes (edgeLineOk N v) (λ _ _. refl) (λ _ n. absurd (omega arith)))
+        number
+        ∙ ap next (ap (λ (x : Added). x .net) (sym e))
+      where
+        Goes : Step → Type 0
+        Goes s = (addedOf N s) .number ≡ 0 → s ≡ next ((addedOf N s) .net)
+
+    pub line-steps : (r : Added) → r ≡ addedOf N (addLine N j v) → r .number ≡ 0 → stepLine (readLine (take lineWidth (drop at b))) j N ≡ next (r .net)
+    line-steps r e zero = step-is ∙ line-goes-on r e zero
+
+-- ---- the end of the sheet, by the answer of the rows over the graph
+
+module _ (N : Net) (a : Answer) (e : a ≡ answered (firstRow (graphRows N))) where
+  pub ends-refused : a .number ≢ 0 → refused a ≡ conclude N (firstRow (graphRows N))
+  unfolding conclude
+  ends-refused ne = go (firstRow (graphRows N)) e
+    where
+      go : (o : Option Answer) → a ≡ answered o → refused a ≡ conclude N o
+      go none f = absurd (ne (ap (λ (x : Answer). x .number) f))
+      go (some x) f = ap refused f
+
+  pub ends-accepted : a .number ≡ 0 → (a ≡ answered none) × (firstRow (graphRows N) ≡ none)
+  unfolding graphRows positive
+  ends-accepted zero =
+      let none-holds = first-none (graphRows N) .1 (answered-zero (graphRows N) refl .0 (ap (λ (x : Answer). x .number) (sym e) ∙ zero)) in
+      (e ∙ ap answered none-holds, none-holds)
