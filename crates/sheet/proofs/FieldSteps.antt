@@ -3,7 +3,7 @@ use Prim.Native.Nat.{ℕ, zero, suc, _+_, _-_, _*_, _/_, _%_, _^_, _≤_, _<_}
 use native.Mathlib.Nat.{add-mul, add-zero, zero-add, zero-mul, mul-one, mul-assoc, div-eq-of-lt, div-lt-iff-lt-mul, div-div-eq-div-mul, one-le-pow, pow-zero, pow-suc, pow-succ', pow-le-pow-right, div-one, one-mul, sub-zero}
 use native.Mathlib.Numerals.{add-one}
 use native.Mathlib.Omega.{arith}
-use mathlib.Core.Path.{_≡_, refl, sym, ap, _∙_}
+use mathlib.Core.Path.{_≡_, sym, ap, _∙_}
 use mathlib.Core.Bool.{true, false, cond}
 use mathlib.Core.List.{List, []}
 use mathlib.Core.Option.{none, some}
@@ -74,7 +74,8 @@ pub differs : (b : List ℕ) (w n i : ℕ) → i < w → (getD b i 0 ≡ column 
 differs b w n i h f = fails _ (λ t. f (ap (λ (l : List ℕ). getD l i 0) (same-true b _ t) ∙ column-at w n i h))
 
 -- one column more, to the left of k columns that agree
-agrees : (b : List ℕ) (k n i : ℕ) → i < length b → getD b i 0 ≡ column n k → same (drop (suc i) b) (writeField k n) ≡ true → same (drop i b) (writeField (suc k) n) ≡ true
+agrees : (b : List ℕ) (k n i : ℕ) → i < length b → getD b i 0 ≡ column n k → same (drop (suc i) b) (writeField k n) ≡ true
+    → same (drop i b) (writeField (suc k) n) ≡ true
 unfolding same writeField
 agrees b k n i h e s = rw (drop-cons b i 0 h) (both (eq-eqb (getD b i 0) (column n k) e) s)
 

@@ -16,7 +16,7 @@ use net::Vertex;
 const LARGEST: u16 = 255;
 
 fn vertex_of(v: Line) -> Vertex
-    requires { ⌜ v .third ≤ 255 ⌝ }
+    requires { do ⌜ v .third ≤ (← ⟦LARGEST⟧) ⌝ }
     ensures { λ r. ⌜ r ≡ vertexOf v ⌝ }
 {
     Vertex {
@@ -26,7 +26,7 @@ fn vertex_of(v: Line) -> Vertex
 }
 
 fn edge_of(v: Line) -> Edge
-    requires { ⌜ (v .second ≤ 255) × (v .third ≤ 255) × (v .fourth ≤ 255) ⌝ }
+    requires { do ⌜ (v .second ≤ (← ⟦LARGEST⟧)) × (v .third ≤ (← ⟦LARGEST⟧)) × (v .fourth ≤ (← ⟦LARGEST⟧)) ⌝ }
     ensures { λ r. ⌜ r ≡ edgeOf v ⌝ }
 {
     Edge {

@@ -26,7 +26,10 @@ element-set-from-next : tie.Need-element-set-from-next
 element-set-from-next c = search needs
 
 returns-2 : tie.Need-returns-2
-returns-2 c = let w = c .before in rw (c .vertex-of .ensures) (vertex-added _ _ _ (w .before .before .if1 .taken) (sym (w .before .vertex-line-ok .ensures) ∙ not-false _ (w .if2 .left)))
+returns-2 c =
+    let w = c .before in
+    rw (c .vertex-of .ensures) (vertex-added _ _ _ (w .before .before .if1 .taken)
+    (sym (w .before .vertex-line-ok .ensures) ∙ not-false _ (w .if2 .left)))
 
 edge-line-ok-requires : tie.Need-edge-line-ok-requires
 edge-line-ok-requires c κs = search needs
@@ -44,7 +47,9 @@ element-set-from-next-2 : tie.Need-element-set-from-next-2
 element-set-from-next-2 c = search needs
 
 returns-4 : tie.Need-returns-4
-returns-4 c = let w = c .before in rw (c .edge-of .ensures) (edge-added _ _ _ (w .before .before .if1 .left) (sym (w .before .edge-line-ok .ensures) ∙ not-false _ (w .if3 .left)))
+returns-4 c =
+    let w = c .before in
+    rw (c .edge-of .ensures) (edge-added _ _ _ (w .before .before .if1 .left) (sym (w .before .edge-line-ok .ensures) ∙ not-false _ (w .if3 .left)))
 
 pub add-line-spec : {M : Type 1} → statement M
 add-line-spec =

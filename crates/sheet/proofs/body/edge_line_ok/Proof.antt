@@ -24,7 +24,9 @@ edge-ok-requires : tie.Need-edge-ok-requires
 edge-ok-requires c κs = search needs
 
 returns-5 : tie.Need-returns-5
-returns-5 c = rw (c .edge-ok .ensures, c .before .edge-of .ensures) (edge-line _ _ (c .before .before .before .before .before .before .before .before .if1 .left))
+returns-5 c =
+    rw (c .edge-ok .ensures, c .before .edge-of .ensures) (edge-line _ _
+    (c .before .before .before .before .before .before .before .before .if1 .left))
 
 pub edge-line-ok-spec : {M : Type 1} → statement M
 edge-line-ok-spec =

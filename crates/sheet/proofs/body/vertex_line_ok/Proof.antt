@@ -21,7 +21,10 @@ returns-3 : tie.Need-returns-3
 returns-3 c = let k = c .before .before .before .before in other-number _ _ _ (k .if1 .left) (λ e. c .if3 .taken (omega arith))
 
 returns-4 : tie.Need-returns-4
-returns-4 c = let n = c .before .before in let k = n .before .before .before .before in other-fifth _ _ _ (k .if1 .left) (omega (arith, n .if3 .left, n .before .before .if2 .left)) (c .if4 .taken)
+returns-4 c =
+    let n = c .before .before in
+    let k = n .before .before .before .before in
+    other-fifth _ _ _ (k .if1 .left) (omega (arith, n .if3 .left, n .before .before .if2 .left)) (c .if4 .taken)
 
 returns-5 : tie.Need-returns-5
 returns-5 c = no-role _ _ _ (omega arith)
@@ -33,7 +36,12 @@ vertex-ok-requires : tie.Need-vertex-ok-requires
 vertex-ok-requires c κs = search needs
 
 returns-6 : tie.Need-returns-6
-returns-6 c = let z = c .before .before .before .before in let n = z .before .before in let k = n .before .before .before .before in rw (c .vertex-ok .ensures, c .before .vertex-of .ensures) (vertex-line _ _ _ (k .if1 .left) (omega (arith, n .if3 .left, n .before .before .if2 .left)) (z .if4 .left))
+returns-6 c =
+    let z = c .before .before .before .before in
+    let n = z .before .before in
+    let k = n .before .before .before .before in
+    rw (c .vertex-ok .ensures, c .before .vertex-of .ensures) (vertex-line _ _ _ (k .if1 .left)
+    (omega (arith, n .if3 .left, n .before .before .if2 .left)) (z .if4 .left))
 
 pub vertex-line-ok-spec : {M : Type 1} → statement M
 vertex-line-ok-spec =

@@ -38,13 +38,18 @@ left-column-requires : tie.Need-left-column-requires Inv-loop μ-loop
 left-column-requires c κs = search needs
 
 returns-2 : tie.Need-returns-2 Inv-loop μ-loop
-returns-2 c = let t = c .before .before .before in sym (left-differs _ _ _ _ _ (t .before .loop .inv) (t .loop-test .taken) (λ e. c .if2 .taken (e ∙ sym (c .before .left-column .ensures))))
+returns-2 c =
+    let t = c .before .before .before in
+    sym (left-differs _ _ _ _ _ (t .before .loop .inv) (t .loop-test .taken) (λ e. c .if2 .taken (e ∙ sym (c .before .left-column .ensures))))
 
 loop-less : tie.Need-loop-less Inv-loop μ-loop
 loop-less c = search needs
 
 loop-again : tie.Need-loop-again Inv-loop μ-loop
-loop-again c = let t = c .before .before .before in left-agrees _ _ _ _ _ (t .before .loop .inv) (t .loop-test .taken) (t .before .before .before .before .before .before .pre) (c .if2 .left ∙ c .before .left-column .ensures)
+loop-again c =
+    let t = c .before .before .before in
+    left-agrees _ _ _ _ _ (t .before .loop .inv) (t .loop-test .taken) (t .before .before .before .before .before .before .pre)
+    (c .if2 .left ∙ c .before .left-column .ensures)
 
 returns-3 : tie.Need-returns-3 Inv-loop μ-loop
 returns-3 c = sym (all-agree _ _ _ _ _ (c .before .loop .inv) (c .loop-test .left))

@@ -17,7 +17,9 @@ loop-holds : tie.Need-loop-holds Inv-loop μ-loop
 loop-holds c = sum-start _
 
 mul-n : tie.Need-mul-n Inv-loop μ-loop
-mul-n c = omega (arith, sum-fits _ _ _ (c .before .loop .inv) (c .loop-test .taken) (c .before .before .shared-slice-known .given (c .before .loop .i) .fits))
+mul-n c =
+    omega
+    (arith, sum-fits _ _ _ (c .before .loop .inv) (c .loop-test .taken) (c .before .before .shared-slice-known .given (c .before .loop .i) .fits))
 
 shared-slice-read-digit : tie.Need-shared-slice-read-digit Inv-loop μ-loop
 shared-slice-read-digit c = search needs
@@ -26,7 +28,10 @@ digit-requires : tie.Need-digit-requires Inv-loop μ-loop
 digit-requires c κs = search needs
 
 add-n : tie.Need-add-n Inv-loop μ-loop
-add-n c = let t = c .before .before in rw (c .digit .ensures) (omega (arith, sum-fits _ _ _ (t .before .loop .inv) (t .loop-test .taken) (c .before .shared-slice-known2 .given (t .before .loop .i) .fits)))
+add-n c =
+    let t = c .before .before in
+    rw (c .digit .ensures) (omega
+    (arith, sum-fits _ _ _ (t .before .loop .inv) (t .loop-test .taken) (c .before .shared-slice-known2 .given (t .before .loop .i) .fits)))
 
 add-i : tie.Need-add-i Inv-loop μ-loop
 add-i c = search needs
@@ -35,7 +40,10 @@ loop-less : tie.Need-loop-less Inv-loop μ-loop
 loop-less c = search needs
 
 loop-again : tie.Need-loop-again Inv-loop μ-loop
-loop-again c = let t = c .before .before in rw (c .digit .ensures) (sum-more _ _ _ (t .before .loop .inv) (t .loop-test .taken) (c .before .shared-slice-known2 .given (t .before .loop .i) .fits) (t .before .before .before .pre))
+loop-again c =
+    let t = c .before .before in
+    rw (c .digit .ensures) (sum-more _ _ _ (t .before .loop .inv) (t .loop-test .taken)
+    (c .before .shared-slice-known2 .given (t .before .loop .i) .fits) (t .before .before .before .pre))
 
 returns : tie.Need-returns Inv-loop μ-loop
 returns c = sum-end _ _ _ (c .before .loop .inv) (c .before .before .before .pre) (c .loop-test .left)

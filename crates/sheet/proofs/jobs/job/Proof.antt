@@ -21,7 +21,10 @@ returns-2 : tie.Need-returns-2
 returns-2 c = let t = c .before .before in not-job _ _ (sym (t .before .before .before .read-line .ensures) ∙ t .before .v .given .1) (c .if1 .taken)
 
 returns-3 : tie.Need-returns-3
-returns-3 c = let u = c .before .before in let t = u .before .before in wrong-fifth _ _ (sym (t .before .before .before .read-line .ensures) ∙ t .before .v .given .1) (c .if2 .taken) (u .if1 .left)
+returns-3 c =
+    let u = c .before .before in
+    let t = u .before .before in
+    wrong-fifth _ _ (sym (t .before .before .before .read-line .ensures) ∙ t .before .v .given .1) (c .if2 .taken) (u .if1 .left)
 
 cast-t5 : tie.Need-cast-t5
 cast-t5 c = search needs
@@ -33,7 +36,11 @@ cast-t7 : tie.Need-cast-t7
 cast-t7 c = search needs
 
 returns-4 : tie.Need-returns-4
-returns-4 c = let w = c .before .before .before in let u = w .before .before in let t = u .before .before in is-job _ _ (sym (t .before .before .before .read-line .ensures) ∙ t .before .v .given .1) (u .if1 .left) (w .if2 .left)
+returns-4 c =
+    let w = c .before .before .before in
+    let u = w .before .before in
+    let t = u .before .before in
+    is-job _ _ (sym (t .before .before .before .read-line .ensures) ∙ t .before .v .given .1) (u .if1 .left) (w .if2 .left)
 
 pub job-spec : {M : Type 1} → statement M
 job-spec =

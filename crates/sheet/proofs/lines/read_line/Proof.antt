@@ -42,7 +42,9 @@ enum-told-2 c = search needs
 returns-4 : tie.Need-returns-4
 returns-4 c = let k0 = c .before .before .before in
     let z = k0 .before .before .before .before in
-    rw (field-1 _ (z .before .before .if1 .left) (z .if2 .left) _ (sym (k0 .before .before .before .field-of .ensures) ∙ k0 .before .kind .given .1) (sym (c .before .before .field-of2 .ensures) ∙ c .enum-told2 .given .1))
+    rw (field-1 _ (z .before .before .if1 .left) (z .if2 .left) _
+    (sym (k0 .before .before .before .field-of .ensures) ∙ k0 .before .kind .given .1)
+    (sym (c .before .before .field-of2 .ensures) ∙ c .enum-told2 .given .1))
 
 field-of-requires-3 : tie.Need-field-of-requires-3
 field-of-requires-3 c κs = search needs
@@ -57,7 +59,10 @@ returns-5 : tie.Need-returns-5
 returns-5 c = let k1 = c .before .before .before in
     let k0 = k1 .before .before .before .before in
     let z = k0 .before .before .before .before in
-    rw (field-2 _ (z .before .before .if1 .left) (z .if2 .left) _ (sym (k0 .before .before .before .field-of .ensures) ∙ k0 .before .kind .given .1) _ (sym (k1 .before .before .before .field-of2 .ensures) ∙ k1 .before .second .given .1) (sym (c .before .before .field-of3 .ensures) ∙ c .enum-told3 .given .1))
+    rw (field-2 _ (z .before .before .if1 .left) (z .if2 .left) _
+    (sym (k0 .before .before .before .field-of .ensures) ∙ k0 .before .kind .given .1) _
+    (sym (k1 .before .before .before .field-of2 .ensures) ∙ k1 .before .second .given .1)
+    (sym (c .before .before .field-of3 .ensures) ∙ c .enum-told3 .given .1))
 
 field-of-requires-4 : tie.Need-field-of-requires-4
 field-of-requires-4 c κs = search needs
@@ -73,7 +78,11 @@ returns-6 c = let k2 = c .before .before .before in
     let k1 = k2 .before .before .before .before in
     let k0 = k1 .before .before .before .before in
     let z = k0 .before .before .before .before in
-    rw (field-3 _ (z .before .before .if1 .left) (z .if2 .left) _ (sym (k0 .before .before .before .field-of .ensures) ∙ k0 .before .kind .given .1) _ (sym (k1 .before .before .before .field-of2 .ensures) ∙ k1 .before .second .given .1) _ (sym (k2 .before .before .before .field-of3 .ensures) ∙ k2 .before .third .given .1) (sym (c .before .before .field-of4 .ensures) ∙ c .enum-told4 .given .1))
+    rw (field-3 _ (z .before .before .if1 .left) (z .if2 .left) _
+    (sym (k0 .before .before .before .field-of .ensures) ∙ k0 .before .kind .given .1) _
+    (sym (k1 .before .before .before .field-of2 .ensures) ∙ k1 .before .second .given .1) _
+    (sym (k2 .before .before .before .field-of3 .ensures) ∙ k2 .before .third .given .1)
+    (sym (c .before .before .field-of4 .ensures) ∙ c .enum-told4 .given .1))
 
 field-of-requires-5 : tie.Need-field-of-requires-5
 field-of-requires-5 c κs = search needs
@@ -90,7 +99,12 @@ returns-7 c = let k3 = c .before .before .before in
     let k1 = k2 .before .before .before .before in
     let k0 = k1 .before .before .before .before in
     let z = k0 .before .before .before .before in
-    rw (field-4 _ (z .before .before .if1 .left) (z .if2 .left) _ (sym (k0 .before .before .before .field-of .ensures) ∙ k0 .before .kind .given .1) _ (sym (k1 .before .before .before .field-of2 .ensures) ∙ k1 .before .second .given .1) _ (sym (k2 .before .before .before .field-of3 .ensures) ∙ k2 .before .third .given .1) _ (sym (k3 .before .before .before .field-of4 .ensures) ∙ k3 .before .fourth .given .1) (sym (c .before .before .field-of5 .ensures) ∙ c .enum-told5 .given .1))
+    rw (field-4 _ (z .before .before .if1 .left) (z .if2 .left) _
+    (sym (k0 .before .before .before .field-of .ensures) ∙ k0 .before .kind .given .1) _
+    (sym (k1 .before .before .before .field-of2 .ensures) ∙ k1 .before .second .given .1) _
+    (sym (k2 .before .before .before .field-of3 .ensures) ∙ k2 .before .third .given .1) _
+    (sym (k3 .before .before .before .field-of4 .ensures) ∙ k3 .before .fourth .given .1)
+    (sym (c .before .before .field-of5 .ensures) ∙ c .enum-told5 .given .1))
 
 returns-8 : tie.Need-returns-8
 returns-8 c = let k3 = c .before .before .before .before in
@@ -98,7 +112,12 @@ returns-8 c = let k3 = c .before .before .before .before in
     let k1 = k2 .before .before .before .before in
     let k0 = k1 .before .before .before .before in
     let z = k0 .before .before .before .before in
-    rw (all-fields _ (z .before .before .if1 .left) (z .if2 .left) _ (sym (k0 .before .before .before .field-of .ensures) ∙ k0 .before .kind .given .1) _ (sym (k1 .before .before .before .field-of2 .ensures) ∙ k1 .before .second .given .1) _ (sym (k2 .before .before .before .field-of3 .ensures) ∙ k2 .before .third .given .1) _ (sym (k3 .before .before .before .field-of4 .ensures) ∙ k3 .before .fourth .given .1) _ (sym (c .before .before .before .field-of5 .ensures) ∙ c .before .fifth .given .1))
+    rw (all-fields _ (z .before .before .if1 .left) (z .if2 .left) _
+    (sym (k0 .before .before .before .field-of .ensures) ∙ k0 .before .kind .given .1) _
+    (sym (k1 .before .before .before .field-of2 .ensures) ∙ k1 .before .second .given .1) _
+    (sym (k2 .before .before .before .field-of3 .ensures) ∙ k2 .before .third .given .1) _
+    (sym (k3 .before .before .before .field-of4 .ensures) ∙ k3 .before .fourth .given .1) _
+    (sym (c .before .before .before .field-of5 .ensures) ∙ c .before .fifth .given .1))
 
 pub read-line-spec : {M : Type 1} → statement M
 read-line-spec =

@@ -16,16 +16,26 @@ is-vertex-requires-2 : tie.Need-is-vertex-requires-2
 is-vertex-requires-2 c κs = search needs
 
 returns-2 : tie.Need-returns-2
-returns-2 c = let u = c .before .before in no-end2 _ _ (sym (u .before .is-vertex .ensures) ∙ not-false _ (u .if1 .left)) (sym (c .before .is-vertex2 .ensures) ∙ not-true _ (c .if2 .taken))
+returns-2 c =
+    let u = c .before .before in
+    no-end2 _ _ (sym (u .before .is-vertex .ensures) ∙ not-false _ (u .if1 .left)) (sym (c .before .is-vertex2 .ensures) ∙ not-true _ (c .if2 .taken))
 
 returns-3 : tie.Need-returns-3
-returns-3 c = let t = c .before .before in let u = t .before .before in same-ends _ _ (sym (u .before .is-vertex .ensures) ∙ not-false _ (u .if1 .left)) (sym (t .before .is-vertex2 .ensures) ∙ not-false _ (t .if2 .left)) (c .if3 .taken)
+returns-3 c =
+    let t = c .before .before in
+    let u = t .before .before in
+    same-ends _ _ (sym (u .before .is-vertex .ensures) ∙ not-false _ (u .if1 .left))
+    (sym (t .before .is-vertex2 .ensures) ∙ not-false _ (t .if2 .left)) (c .if3 .taken)
 
 symbol-ok-requires : tie.Need-symbol-ok-requires
 symbol-ok-requires c κs = search needs
 
 returns-4 : tie.Need-returns-4
-returns-4 c = let t = c .before .before .before in let u = t .before .before in c .symbol-ok .ensures ∙ two-ends _ _ (sym (u .before .is-vertex .ensures) ∙ not-false _ (u .if1 .left)) (sym (t .before .is-vertex2 .ensures) ∙ not-false _ (t .if2 .left)) (c .before .if3 .left)
+returns-4 c =
+    let t = c .before .before .before in
+    let u = t .before .before in
+    c .symbol-ok .ensures ∙ two-ends _ _ (sym (u .before .is-vertex .ensures) ∙ not-false _ (u .if1 .left))
+    (sym (t .before .is-vertex2 .ensures) ∙ not-false _ (t .if2 .left)) (c .before .if3 .left)
 
 pub edge-ok-spec : {M : Type 1} → statement M
 edge-ok-spec =

@@ -27,7 +27,9 @@ counts-ok-requires c κs = search needs
 
 returns-3 : tie.Need-returns-3
 unfolding headerOk
-returns-3 c = let w = c .before .before .before .before in rw (eq-eqb _ _ (w .before .before .if1 .left), eq-eqb _ _ (w .if2 .left)) (c .counts-ok .ensures)
+returns-3 c =
+    let w = c .before .before .before .before in
+    rw (eq-eqb _ _ (w .before .before .if1 .left), eq-eqb _ _ (w .if2 .left)) (c .counts-ok .ensures)
 
 pub header-ok-spec : {M : Type 1} → statement M
 header-ok-spec =

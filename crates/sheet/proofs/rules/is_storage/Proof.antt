@@ -31,13 +31,19 @@ element-copy-out-role : tie.Need-element-copy-out-role
 element-copy-out-role c = search needs
 
 returns-3 : tie.Need-returns-3
-returns-3 c = let w = c .before .before .before in storage-role _ _ (sym (w .before .is-vertex .ensures) ∙ not-false _ (w .if1 .left)) _ refl (c .before .if3 .left) (c .if4 .taken)
+returns-3 c =
+    let w = c .before .before .before in
+    storage-role _ _ (sym (w .before .is-vertex .ensures) ∙ not-false _ (w .if1 .left)) _ refl (c .before .if3 .left) (c .if4 .taken)
 
 returns-4 : tie.Need-returns-4
-returns-4 c = let w = c .before .before in other-role _ _ (sym (w .before .is-vertex .ensures) ∙ not-false _ (w .if1 .left)) _ refl (λ e. omega arith) (λ e. omega arith)
+returns-4 c =
+    let w = c .before .before in
+    other-role _ _ (sym (w .before .is-vertex .ensures) ∙ not-false _ (w .if1 .left)) _ refl (λ e. omega arith) (λ e. omega arith)
 
 returns-5 : tie.Need-returns-5
-returns-5 c = let w = c .before .before .before in other-role _ _ (sym (w .before .is-vertex .ensures) ∙ not-false _ (w .if1 .left)) _ refl (λ e. omega arith) (λ e. omega arith)
+returns-5 c =
+    let w = c .before .before .before in
+    other-role _ _ (sym (w .before .is-vertex .ensures) ∙ not-false _ (w .if1 .left)) _ refl (λ e. omega arith) (λ e. omega arith)
 
 pub is-storage-spec : {M : Type 1} → statement M
 is-storage-spec =

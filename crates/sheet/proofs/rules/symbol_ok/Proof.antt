@@ -27,16 +27,26 @@ known-symbol-requires-2 : tie.Need-known-symbol-requires-2
 known-symbol-requires-2 c κs = search needs
 
 returns : tie.Need-returns
-returns c = let t = c .before .before .before in let f = t .before .before in c .known-symbol2 .ensures ∙ primed-symbol _ _ _ (f .before .decoded .ensures) _ (sym (t .enum-told2 .given .1) ∙ f .form-of .ensures) (sym (c .before .before .is-variable .ensures) ∙ c .before .if1 .taken)
+returns c =
+    let t = c .before .before .before in
+    let f = t .before .before in
+    c .known-symbol2 .ensures ∙ primed-symbol _ _ _ (f .before .decoded .ensures) _ (sym (t .enum-told2 .given .1) ∙ f .form-of .ensures)
+    (sym (c .before .before .is-variable .ensures) ∙ c .before .if1 .taken)
 
 enum-told-3 : tie.Need-enum-told-3
 enum-told-3 c = search needs
 
 returns-2 : tie.Need-returns-2
-returns-2 c = let f = c .before .before .before in c .known-symbol .ensures ∙ plain-symbol _ _ _ (f .before .decoded .ensures) (sym (c .before .enum-told .given .1) ∙ f .form-of .ensures)
+returns-2 c =
+    let f = c .before .before .before in
+    c .known-symbol .ensures ∙ plain-symbol _ _ _ (f .before .decoded .ensures) (sym (c .before .enum-told .given .1) ∙ f .form-of .ensures)
 
 returns-3 : tie.Need-returns-3
-returns-3 c = let t = c .before .before in let f = t .before .before in primed-constant _ _ _ (f .before .decoded .ensures) _ (sym (t .enum-told2 .given .1) ∙ f .form-of .ensures) (sym (c .before .is-variable .ensures) ∙ c .if1 .left)
+returns-3 c =
+    let t = c .before .before in
+    let f = t .before .before in
+    primed-constant _ _ _ (f .before .decoded .ensures) _ (sym (t .enum-told2 .given .1) ∙ f .form-of .ensures)
+    (sym (c .before .is-variable .ensures) ∙ c .if1 .left)
 
 returns-4 : tie.Need-returns-4
 returns-4 c = let f = c .before .before in unknown-form _ _ _ (f .before .decoded .ensures) (sym (c .enum-told3 .given .1) ∙ f .form-of .ensures)
