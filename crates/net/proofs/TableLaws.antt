@@ -9,6 +9,7 @@ use lib.Dec.{eqb, ltb}
 use lib.ListN.{getD, take}
 use borrow.Author.Tests.{lt-ltb, le-ltb, le-leb, eq-eqb, ne-eqb, eqb-false}
 use Rattle.ternary.specs.Bits.{digit}
+use Rattle.ternary.proofs.BitLaws.{eqb-digit}
 use Rattle.ternary.proofs.ListLaws.{getD-table}
 use Rattle.ternary.proofs.Tests.{fails, by-test}
 use Rattle.net.specs.declared.Net.{Net}
@@ -51,17 +52,13 @@ flag-storage r l h = by-test (eqb r 1) (λ e. rw e) (λ e. rw (e, eq-eqb r 2 (om
 pub flag-other : (r : ℕ) → r ≢ 1 → r ≢ 2 → 0 ≡ digit (eqb r 1 || eqb r 2)
 flag-other r a b = rw (ne-eqb r 1 a, ne-eqb r 2 b)
 
-pub digit-test : (b : Bool) → eqb (digit b) 1 ≡ b
-digit-test true = refl
-digit-test false = refl
-
 module _ (N : Net) (s : List ℕ) (flags : s ≡ storageFlags N) where
   pub storage-read : (v : ℕ) → v ≤ mostVertices → getD s v 0 ≡ digit (isStorage N v)
   unfolding storageFlags
   storage-read v h = rw flags (getD-table (suc mostVertices) (λ u. digit (isStorage N u)) v 0 (omega arith))
 
   pub storage-test : (v : ℕ) → v ≤ mostVertices → eqb (getD s v 0) 1 ≡ isStorage N v
-  storage-test v h = rw (storage-read v h) (digit-test (isStorage N v))
+  storage-test v h = rw (storage-read v h) (eqb-digit (isStorage N v))
 
   -- the flag of edge i
   pub inner-flag : (i : ℕ) → i < N .«edge_count» → (edgeAt N i) .end1 ≤ mostVertices → (edgeAt N i) .end2 ≤ mostVertices
@@ -85,7 +82,7 @@ module _ (N : Net) where
   unfolding innerFlags
   inner-test i l h =
       ap (λ (x : ℕ). eqb x 1) (getD-table mostEdges (λ k. digit (ltb k (N .«edge_count») && inner N (edgeAt N k))) i 0 h)
-      ∙ digit-test (ltb i (N .«edge_count») && inner N (edgeAt N i))
+      ∙ eqb-digit (ltb i (N .«edge_count») && inner N (edgeAt N i))
       ∙ rw (lt-ltb i (N .«edge_count») l) refl
 
   -- the walk over the tables of ends is the walk over the edges

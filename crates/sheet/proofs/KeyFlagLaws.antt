@@ -8,6 +8,7 @@ use lib.Dec.{eqb}
 use lib.ListN.{length, getD}
 use Rattle.ternary.specs.Lists.{countBelow}
 use Rattle.ternary.specs.Bits.{digit}
+use Rattle.ternary.proofs.BitLaws.{eqb-digit}
 use Rattle.ternary.proofs.ListLaws.{getD-table, count-more, count-ext, length-list, at-place}
 use Rattle.net.specs.declared.Net.{Net}
 use Rattle.net.specs.Limits.{mostVertices, mostKeyNodes}
@@ -21,10 +22,6 @@ use Rattle.sheet.proofs.GraphLaws.{key-none, key-some}
 abbrev pub flagged : List ℕ → ℕ → Bool
 flagged flags v = eqb (getD flags v 0) 1
 
-digit-flag : (b : Bool) → eqb (digit b) 1 ≡ b
-digit-flag true = refl
-digit-flag false = refl
-
 module _ (N : Net) (flags : List ℕ) (e : flags ≡ keyFlags N) where
   flag-at : (v : ℕ) → v < suc mostVertices → getD flags v 0 ≡ digit (isKey N v)
   unfolding keyFlags
@@ -32,10 +29,10 @@ module _ (N : Net) (flags : List ℕ) (e : flags ≡ keyFlags N) where
 
   -- adding a flag counts it
   pub flag-counted : (v : ℕ) → v < suc mostVertices → countBelow v (flagged flags) + getD flags v 0 ≡ countBelow (v + 1) (flagged flags)
-  flag-counted v h = sym (count-more (flagged flags) v ∙ ap (λ (x : ℕ). countBelow v (flagged flags) + x) (rw (flag-at v h, digit-flag)))
+  flag-counted v h = sym (count-more (flagged flags) v ∙ ap (λ (x : ℕ). countBelow v (flagged flags) + x) (rw (flag-at v h, eqb-digit)))
 
   keys-counted : (v : ℕ) → v ≤ suc mostVertices → countBelow v (flagged flags) ≡ countBelow v (isKey N)
-  keys-counted v h = count-ext v (flagged flags) (isKey N) (λ k l. rw (flag-at k (omega arith)) (digit-flag (isKey N k)))
+  keys-counted v h = count-ext v (flagged flags) (isKey N) (λ k l. rw (flag-at k (omega arith)) (eqb-digit (isKey N k)))
 
   -- the count passes the limit at v
   pub key-found : (v : ℕ) → v ≤ N .«vertex_count» → N .«vertex_count» ≤ mostVertices → countBelow v (flagged flags) ≤ mostKeyNodes

@@ -38,7 +38,7 @@ fn edge_of(v: Line) -> Edge
 }
 
 // A vertex line is 2, its number j + 1, role, label and 0. One is taken off the number, for any j may be asked about.
-pub fn vertex_line_ok(net: Net, j: usize, v: Line) -> bool
+fn vertex_line_ok(net: Net, j: usize, v: Line) -> bool
     ensures { λ r. ⌜ r ≡ vertexLineOk net j v ⌝ }
 {
     if v.kind != Line::VERTEX {
@@ -61,7 +61,7 @@ pub fn vertex_line_ok(net: Net, j: usize, v: Line) -> bool
 }
 
 // An edge line is 3, the ends, form and symbol.
-pub fn edge_line_ok(net: Net, v: Line) -> bool
+fn edge_line_ok(net: Net, v: Line) -> bool
     ensures { λ r. ⌜ r ≡ edgeLineOk net v ⌝ }
 {
     if v.kind != Line::EDGE {

@@ -23,7 +23,7 @@ pub enum Found {
 }
 
 // Is f parallel to e, with the same symbol and the form that e's primed form needs?
-pub fn is_partner(e: Edge, f: Edge) -> bool
+fn is_partner(e: Edge, f: Edge) -> bool
     requires { ⌜ e .form ≤ 3 ⌝ }
     ensures { λ r. ⌜ r ≡ isPartner e f ⌝ }
 {
@@ -34,7 +34,7 @@ pub fn is_partner(e: Edge, f: Edge) -> bool
 }
 
 // Has edge i a partner among the edges in use?
-pub fn has_partner(net: Net, i: usize) -> bool
+fn has_partner(net: Net, i: usize) -> bool
     requires { ⌜ (i < mostEdges) × (net .«edge_count» ≤ mostEdges) × ((edgeAt net i) .form ≤ 3) ⌝ }
     ensures { λ r. ⌜ r ≡ anyBelow (net .«edge_count») (λ j. isPartner (edgeAt net i) (edgeAt net j)) ⌝ }
 {
@@ -51,7 +51,7 @@ pub fn has_partner(net: Net, i: usize) -> bool
 }
 
 // Is edge i of a primed form, without a partner?
-pub fn lacks_partner(net: Net, i: usize) -> bool
+fn lacks_partner(net: Net, i: usize) -> bool
     requires { ⌜ (i < mostEdges) × (net .«edge_count» ≤ mostEdges) × ((edgeAt net i) .form ≤ 3) ⌝ }
     ensures { λ r. ⌜ r ≡ lacksPartner net i ⌝ }
 {
@@ -63,7 +63,7 @@ pub fn lacks_partner(net: Net, i: usize) -> bool
 }
 
 // The line of the first edge without a partner.
-pub fn partner_place(net: Net) -> Found
+fn partner_place(net: Net) -> Found
     requires { ⌜ (net .«edge_count» ≤ mostEdges) × ((i : ℕ) → i < net .«edge_count» → (edgeAt net i) .form ≤ 3) ⌝ }
     ensures { λ r. ⌜ r ≡ foundOf (partnerPlace net) ⌝ }
 {
@@ -86,7 +86,7 @@ fn wide(x: u8) -> usize
 }
 
 // The vertex of the first key node above the limit.
-pub fn key_place(net: Net, keys: &[u8; Net::VERTEX_PLACES]) -> Found
+fn key_place(net: Net, keys: &[u8; Net::VERTEX_PLACES]) -> Found
     requires { ⌜ (net .«vertex_count» ≤ mostVertices) × (now keys ≡ keyFlags net) ⌝ }
     ensures { λ r. ⌜ r ≡ foundOf (keyPlace net) ⌝ }
 {
@@ -104,7 +104,7 @@ pub fn key_place(net: Net, keys: &[u8; Net::VERTEX_PLACES]) -> Found
 }
 
 // Has the component of vertex y too many signals?
-pub fn over_signals<'a>(
+fn over_signals<'a>(
     net: Net,
     storage: &'a [u8; Net::VERTEX_PLACES],
     labels: &'a [u8; Net::VERTEX_PLACES],
@@ -120,7 +120,7 @@ pub fn over_signals<'a>(
 }
 
 // The lowest vertex of a component with too many signals.
-pub fn signal_place<'a>(
+fn signal_place<'a>(
     net: Net,
     storage: &'a [u8; Net::VERTEX_PLACES],
     labels: &'a [u8; Net::VERTEX_PLACES],
@@ -140,7 +140,7 @@ pub fn signal_place<'a>(
 }
 
 // Row 22 from the record.
-pub fn key_row(net: Net) -> Found
+fn key_row(net: Net) -> Found
     requires { ⌜ Checked net ⌝ }
     ensures { λ r. ⌜ r ≡ foundOf (keyPlace net) ⌝ }
 {
@@ -150,7 +150,7 @@ pub fn key_row(net: Net) -> Found
 }
 
 // Row 23 from the record.
-pub fn signal_row(net: Net) -> Found
+fn signal_row(net: Net) -> Found
     requires { ⌜ Checked net ⌝ }
     ensures { λ r. ⌜ r ≡ foundOf (signalPlace net) ⌝ }
 {

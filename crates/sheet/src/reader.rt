@@ -22,7 +22,7 @@ use net::Net;
 use net::Vertex;
 
 // The record of a header before any vertex or edge is read: all places zero.
-pub fn start_net(vertices: u8, edges: u16, letters: u8) -> Net
+fn start_net(vertices: u8, edges: u16, letters: u8) -> Net
     ensures { λ r. ⌜ r ≡ startNet vertices edges letters ⌝ }
 {
     let vertex = Vertex { role: 0, label: 0 };
@@ -55,7 +55,7 @@ fn size_ok(size: usize) -> bool
 }
 
 // A refusal: its number and place, and the empty record.
-pub fn refusal(number: u8, place: u16) -> Reading
+fn refusal(number: u8, place: u16) -> Reading
     ensures { λ r. ⌜ r ≡ refused (answer number place) ⌝ }
 {
     let empty = start_net(0, 0, 0);

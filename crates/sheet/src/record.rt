@@ -13,13 +13,13 @@ use net::Edge;
 use net::Net;
 use net::Vertex;
 
-pub fn is_no_vertex(x: Vertex) -> bool
+fn is_no_vertex(x: Vertex) -> bool
     ensures { λ r. ⌜ r ≡ isNoVertex x ⌝ }
 {
     both(x.role == 0, x.label == 0)
 }
 
-pub fn is_no_edge(e: Edge) -> bool
+fn is_no_edge(e: Edge) -> bool
     ensures { λ r. ⌜ r ≡ isNoEdge e ⌝ }
 {
     both(
@@ -29,7 +29,7 @@ pub fn is_no_edge(e: Edge) -> bool
 }
 
 // Are the vertex places beyond those in use zero?
-pub fn spare_vertices_zero(net: Net) -> bool
+fn spare_vertices_zero(net: Net) -> bool
     requires { ⌜ net .«vertex_count» ≤ mostVertices ⌝ }
     ensures { λ r. ⌜ r ≡ allOf isNoVertex (drop (net .«vertex_count») (net .vertices)) ⌝ }
 {
@@ -44,7 +44,7 @@ pub fn spare_vertices_zero(net: Net) -> bool
 }
 
 // Are the edge places beyond those in use zero?
-pub fn spare_edges_zero(net: Net) -> bool
+fn spare_edges_zero(net: Net) -> bool
     requires { ⌜ net .«edge_count» ≤ mostEdges ⌝ }
     ensures { λ r. ⌜ r ≡ allOf isNoEdge (drop (net .«edge_count») (net .edges)) ⌝ }
 {
@@ -59,7 +59,7 @@ pub fn spare_edges_zero(net: Net) -> bool
 }
 
 // Are the values of every vertex in use allowed?
-pub fn vertices_ok(net: Net) -> bool
+fn vertices_ok(net: Net) -> bool
     requires { ⌜ net .«vertex_count» ≤ mostVertices ⌝ }
     ensures { λ r. ⌜ r ≡ allOf (vertexOk net) (take (net .«vertex_count») (net .vertices)) ⌝ }
 {
@@ -75,7 +75,7 @@ pub fn vertices_ok(net: Net) -> bool
 }
 
 // Are the values of every edge in use allowed?
-pub fn edges_ok(net: Net) -> bool
+fn edges_ok(net: Net) -> bool
     requires { ⌜ net .«edge_count» ≤ mostEdges ⌝ }
     ensures { λ r. ⌜ r ≡ allOf (edgeOk net) (take (net .«edge_count») (net .edges)) ⌝ }
 {

@@ -3,7 +3,7 @@
 ghost use mathlib.Core.Path.{_≡_};
 ghost use mathlib.Core.Bool.{_&&_};
 ghost use lib.Dec.{leb};
-ghost use Rattle.net.specs.Symbols.{within, decode, isVariable};
+ghost use Rattle.net.specs.Symbols.{within, isVariable};
 ghost use Rattle.net.specs.Graph.{isStorage};
 ghost use Rattle.net.specs.Known.{knownSymbol, knownLabel};
 ghost use Rattle.sheet.specs.Rules.{countsOk, headerOk, vertexOk, symbolOk, edgeOk, formOf};
@@ -13,15 +13,7 @@ use net::Edge;
 use net::Net;
 use net::Symbol;
 use net::Vertex;
-
-// The numbers of the letters' symbols and of the vertices' symbols.
-const FIRST_LETTER: u16 = Symbol::LETTERS + 1;
-
-const LAST_LETTER: u16 = Symbol::LETTERS + Net::MOST_LETTERS as u16;
-
-const FIRST_VERTEX: u16 = Symbol::VERTICES + 1;
-
-const LAST_VERTEX: u16 = Symbol::VERTICES + Net::MOST_VERTICES as u16;
+use net::symbols;
 
 // The roles of a vertex.
 const INPUT: u8 = 0;
@@ -33,20 +25,8 @@ const OUTPUT: u8 = 2;
 // The edition that this reader knows.
 const EDITION: u16 = 1;
 
-// A symbol by its number.
-fn decoded(number: u16) -> Symbol
-    ensures { λ r. ⌜ r ≡ decode number ⌝ }
-{
-    match number {
-        0..=1 => Symbol::Constant(number as u8),
-        FIRST_LETTER..=LAST_LETTER => Symbol::Letter((number - Symbol::LETTERS) as u8),
-        FIRST_VERTEX..=LAST_VERTEX => Symbol::Vertex((number - Symbol::VERTICES) as u8),
-        _ => Symbol::Unknown,
-    }
-}
-
 // What a form is: plain, or primed with the form that its partner has.
-pub fn form_of(form: u8) -> Form
+fn form_of(form: u8) -> Form
     ensures { λ r. ⌜ r ≡ formOf form ⌝ }
 {
     match form {
@@ -97,7 +77,7 @@ fn is_vertex(count: u8, v: u8) -> bool
 }
 
 // Whether v is a storage vertex. In a record that is not valid the count may go beyond the places, where no vertex is.
-pub fn is_storage(net: Net, v: u8) -> bool
+fn is_storage(net: Net, v: u8) -> bool
     ensures { λ r. ⌜ r ≡ isStorage net v ⌝ }
 {
     if !is_vertex(net.vertex_count, v) {
@@ -156,7 +136,7 @@ pub fn vertex_ok(net: Net, x: Vertex) -> bool
 {
     let role = x.role;
     match role {
-        INPUT => known_label(net, decoded(x.label)),
+        INPUT => known_label(net, symbols::decoded(x.label)),
         STORAGE..=OUTPUT => x.label == 0,
         _ => false,
     }
@@ -166,7 +146,7 @@ pub fn vertex_ok(net: Net, x: Vertex) -> bool
 fn symbol_ok(net: Net, e: Edge) -> bool
     ensures { λ r. ⌜ r ≡ (leb (e .form) 3 && symbolOk net e) ⌝ }
 {
-    let s = decoded(e.symbol);
+    let s = symbols::decoded(e.symbol);
     match form_of(e.form) {
         Form::Plain => known_symbol(net, s),
         Form::Primed(_) => {

@@ -3,7 +3,6 @@
 
 ghost use Prim.Native.Nat.{_≤_, _<_};
 ghost use lib.ListN.{length};
-
 use libc::STDIN_FILENO;
 use libc::STDOUT_FILENO;
 use sheet::Field;

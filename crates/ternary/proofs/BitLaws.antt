@@ -73,7 +73,8 @@ pub setOf-lt : (h : ℕ) (P : ℕ → Bool) → setOf h P < 2 ^ h
 unfolding setOf
 setOf-lt h P = number-lt h (λ k. digit (P k)) (λ k _. digit-lt (P k))
 
-eqb-digit : (b : Bool) → eqb (digit b) 1 ≡ b
+-- a digit is 1 exactly if its test passes
+pub eqb-digit : (b : Bool) → eqb (digit b) 1 ≡ b
 eqb-digit true = refl
 eqb-digit false = refl
 
