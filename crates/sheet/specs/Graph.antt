@@ -4,10 +4,11 @@ use mathlib.Core.Bool.{Bool, not, _&&_, _||_}
 use mathlib.Core.List.{List, [], _∷_}
 use mathlib.Core.Option.{Option, none, some, Option·map}
 use lib.Dec.{ltb, eqb}
-use lib.ListN.{getElem?}
+use lib.ListN.{getD, getElem?}
 use Rattle.ternary.specs.Lists.{anyBelow, leastBelow}
 use Rattle.net.specs.Limits.{mostKeyNodes, mostSignals}
 use Rattle.net.specs.Graph.{edgeAt, isStorage, keys}
+use Rattle.net.specs.Classes.{sameLabel}
 use Rattle.net.specs.SignalTable.{signalCount}
 use Rattle.net.specs.declared.Edge.{Edge}
 use Rattle.net.specs.declared.Net.{Net}
@@ -42,6 +43,10 @@ keyPlace N = getElem? (keys N) mostKeyNodes
 -- the component of storage vertex y has too many signals
 unfoldable pub overSignals : Net → ℕ → Bool
 overSignals N y = isStorage N y && ltb mostSignals (signalCount N y)
+
+-- by tables of storage flags and of labels, y has the label of a storage vertex below it
+unfoldable pub joinsLower : List ℕ → List ℕ → ℕ → Bool
+joinsLower storage labels y = anyBelow y (λ x. eqb (getD storage x 0) 1 && sameLabel labels y x)
 
 -- 23: the lowest vertex of any such component
 unfoldable pub signalPlace : Net → Option ℕ

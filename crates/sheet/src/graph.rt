@@ -2,13 +2,14 @@
 
 ghost use mathlib.Core.Path.{_≡_};
 ghost use Prim.Native.Nat.{ℕ, _≤_, _<_};
-ghost use Rattle.ternary.specs.Lists.{anyBelow};
+ghost use mathlib.Core.Option.{none};
+ghost use Rattle.ternary.specs.Lists.{anyBelow, leastBelow};
 ghost use Rattle.net.specs.Limits.{mostVertices, mostEdges};
 ghost use Rattle.net.specs.Tables.{keyFlags, Prepared};
 ghost use Rattle.net.specs.Graph.{edgeAt};
 ghost use Rattle.sheet.specs.Rows.{firstRow, answered};
 ghost use Rattle.sheet.specs.Checked.{Checked};
-ghost use Rattle.sheet.specs.Graph.{isPartner, lacksPartner, partnerPlace, keyPlace, overSignals, signalPlace, graphRows, foundOf};
+ghost use Rattle.sheet.specs.Graph.{isPartner, lacksPartner, partnerPlace, keyPlace, overSignals, joinsLower, signalPlace, graphRows, foundOf};
 use crate::Answer;
 use crate::tests::both;
 use crate::tests::either;
@@ -103,17 +104,40 @@ fn key_place(net: Net, keys: &[u8; Net::VERTEX_PLACES]) -> Found
     Found::Nothing
 }
 
-// Has the component of vertex y too many signals?
+// Is y labelled as a storage vertex below it is? Both are then of one component.
+fn joins_lower<'a>(
+    storage: &'a [u8; Net::VERTEX_PLACES],
+    labels: &'a [u8; Net::VERTEX_PLACES],
+    y: u8,
+) -> bool
+    requires { ⌜ y ≤ mostVertices ⌝ }
+    ensures { λ r. ⌜ r ≡ joinsLower (now (storage .entry)) (now (labels .entry)) y ⌝ }
+{
+    let label = labels[y as usize];
+    let mut x: u8 = 0;
+    while x < y {
+        if both(storage[x as usize] == 1, label == labels[x as usize]) {
+            return true;
+        }
+        x += 1;
+    }
+    false
+}
+
+// Has the component of vertex y too many signals? It is counted once, at its lowest vertex.
 fn over_signals<'a>(
     net: Net,
     storage: &'a [u8; Net::VERTEX_PLACES],
     labels: &'a [u8; Net::VERTEX_PLACES],
     y: u8,
 ) -> bool
-    requires { ⌜ Prepared net (now storage) (now labels) × (y ≤ mostVertices) ⌝ }
+    requires { ⌜ Prepared net (now storage) (now labels) × (y ≤ mostVertices) × (leastBelow y (overSignals net) ≡ none) ⌝ }
     ensures { λ r. ⌜ r ≡ overSignals net y ⌝ }
 {
     if storage[y as usize] != 1 {
+        return false;
+    }
+    if joins_lower(storage, labels, y) {
         return false;
     }
     Net::MOST_SIGNALS < signals::signal_count(net, storage, labels, y)

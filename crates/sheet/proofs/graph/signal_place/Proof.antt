@@ -22,7 +22,7 @@ unfolding leastBelow
 loop-holds c = (search needs, λ _. none)
 
 over-signals-requires : tie.Need-over-signals-requires Inv-loop μ-loop
-over-signals-requires c κs = let s = c .before .before in (s .pre, omega (arith, s .pre .readable .vertices))
+over-signals-requires c κs = let s = c .before .before in (s .pre, omega (arith, s .pre .readable .vertices), c .before .loop .inv .1)
 
 cast-t8 : tie.Need-cast-t8 Inv-loop μ-loop
 cast-t8 c = search needs
