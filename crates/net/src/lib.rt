@@ -1,5 +1,6 @@
 //! The record of a net, the report's CMOS graph: its vertices, its edges and how many letters it has.
-//! What a net means stands in specs/, the laws of it in proofs/.
+//! What a net means stands in specs/, the laws of it in proofs/. The functions: symbols by number, the walk over edges, the tables of a
+//! graph, and the signals of a component.
 
 pub mod graph;
 pub mod signals;

@@ -24,13 +24,9 @@ abbrev μ-loop : tie.MeasureT-loop
 μ-loop storage net flags₀ count i₀ flags i = count - i
 
 -- the ends of edge i
-first-end : (c : tie.In-loop Inv-loop μ-loop) → (getD (c .before .before .args .t1 .edges) (c .before .loop .i) noEdge) .end1 ≤ mostVertices
+ends : (c : tie.In-loop Inv-loop μ-loop) → (let e = getD (c .before .before .args .t1 .edges) (c .before .loop .i) noEdge in (e .end1 ≤ mostVertices) × (e .end2 ≤ mostVertices))
 unfolding edgeAt
-first-end c = c .before .before .pre .0 .first-end (c .before .loop .i) (c .loop-test .taken)
-
-second-end : (c : tie.In-loop Inv-loop μ-loop) → (getD (c .before .before .args .t1 .edges) (c .before .loop .i) noEdge) .end2 ≤ mostVertices
-unfolding edgeAt
-second-end c = c .before .before .pre .0 .second-end (c .before .loop .i) (c .loop-test .taken)
+ends c = let r = c .before .before .pre .0 in (r .first-end (c .before .loop .i) (c .loop-test .taken), r .second-end (c .before .loop .i) (c .loop-test .taken))
 
 cast-count : tie.Need-cast-count Inv-loop μ-loop
 cast-count c = search needs
@@ -45,16 +41,16 @@ element-copy-out-edge : tie.Need-element-copy-out-edge Inv-loop μ-loop
 element-copy-out-edge c = omega (arith, c .before .before .pre .0 .edges)
 
 cast-both : tie.Need-cast-both Inv-loop μ-loop
-cast-both c = omega (arith, first-end (c .before .before))
+cast-both c = omega (arith, ends (c .before .before))
 
 element-copy-out-both : tie.Need-element-copy-out-both Inv-loop μ-loop
-element-copy-out-both c = omega (arith, first-end (c .before .before))
+element-copy-out-both c = omega (arith, ends (c .before .before))
 
 cast-both-2 : tie.Need-cast-both-2 Inv-loop μ-loop
-cast-both-2 c = omega (arith, second-end (c .before .before .before .before))
+cast-both-2 c = omega (arith, ends (c .before .before .before .before))
 
 element-copy-out-both-2 : tie.Need-element-copy-out-both-2 Inv-loop μ-loop
-element-copy-out-both-2 c = omega (arith, second-end (c .before .before .before .before))
+element-copy-out-both-2 c = omega (arith, ends (c .before .before .before .before))
 
 both-requires : tie.Need-both-requires Inv-loop μ-loop
 both-requires c κs = search needs
@@ -75,7 +71,7 @@ loop-again c =
     let s = t .before .before in (
       search needs,
       fill-step (t .before .loop .inv .1) (omega (arith, s .pre .0 .edges))
-          (c .both .ensures ∙ inner-flag (s .args .t1) (s .args .storage .now) (s .pre .1) (t .before .loop .i) (t .loop-test .taken) (first-end t) (second-end t)),
+          (c .both .ensures ∙ inner-flag (s .args .t1) (s .args .storage .now) (s .pre .1) (t .before .loop .i) (t .loop-test .taken) (ends t .0) (ends t .1)),
     )
 
 returns : tie.Need-returns Inv-loop μ-loop

@@ -20,13 +20,9 @@ abbrev μ-loop : tie.MeasureT-loop
 μ-loop storage labels y net inputs mine flags₀ count i₀ flags i = count - i
 
 -- the ends of edge i
-first-end : (c : tie.In-loop Inv-loop μ-loop) → (getD (c .before .before .before .before .args .t1 .edges) (c .before .loop .i) noEdge) .end1 ≤ mostVertices
+ends : (c : tie.In-loop Inv-loop μ-loop) → (let e = getD (c .before .before .before .before .args .t1 .edges) (c .before .loop .i) noEdge in (e .end1 ≤ mostVertices) × (e .end2 ≤ mostVertices))
 unfolding edgeAt
-first-end c = c .before .before .before .before .pre .0 .readable .first-end (c .before .loop .i) (c .loop-test .taken)
-
-second-end : (c : tie.In-loop Inv-loop μ-loop) → (getD (c .before .before .before .before .args .t1 .edges) (c .before .loop .i) noEdge) .end2 ≤ mostVertices
-unfolding edgeAt
-second-end c = c .before .before .before .before .pre .0 .readable .second-end (c .before .loop .i) (c .loop-test .taken)
+ends c = let r = c .before .before .before .before .pre .0 .readable in (r .first-end (c .before .loop .i) (c .loop-test .taken), r .second-end (c .before .loop .i) (c .loop-test .taken))
 
 input-labels-requires : tie.Need-input-labels-requires Inv-loop μ-loop
 input-labels-requires c κs = c .pre .0 .readable .vertices
@@ -47,43 +43,43 @@ element-copy-out-edge : tie.Need-element-copy-out-edge Inv-loop μ-loop
 element-copy-out-edge c = omega (arith, c .before .before .before .before .pre .0 .readable .edges)
 
 cast-u : tie.Need-cast-u Inv-loop μ-loop
-cast-u c = omega (arith, first-end (c .before .before))
+cast-u c = omega (arith, ends (c .before .before))
 
 cast-v : tie.Need-cast-v Inv-loop μ-loop
-cast-v c = omega (arith, second-end (c .before .before .before))
+cast-v c = omega (arith, ends (c .before .before .before))
 
 element-copy-out-belongs : tie.Need-element-copy-out-belongs Inv-loop μ-loop
-element-copy-out-belongs c = omega (arith, first-end (c .before .before .before .before))
+element-copy-out-belongs c = omega (arith, ends (c .before .before .before .before))
 
 element-copy-out-belongs-2 : tie.Need-element-copy-out-belongs-2 Inv-loop μ-loop
-element-copy-out-belongs-2 c = omega (arith, first-end (c .before .before .before .before .before))
+element-copy-out-belongs-2 c = omega (arith, ends (c .before .before .before .before .before))
 
 belongs-requires : tie.Need-belongs-requires Inv-loop μ-loop
 belongs-requires c κs = search needs
 
 mul-mark-end : tie.Need-mul-mark-end Inv-loop μ-loop
-mul-mark-end c = omega (arith, second-end (c .before .before .before .before .before .before .before))
+mul-mark-end c = omega (arith, ends (c .before .before .before .before .before .before .before))
 
 array-read-mark-end : tie.Need-array-read-mark-end Inv-loop μ-loop
-array-read-mark-end c = omega (arith, second-end (c .before .before .before .before .before .before .before))
+array-read-mark-end c = omega (arith, ends (c .before .before .before .before .before .before .before))
 
 mark-end-requires : tie.Need-mark-end-requires Inv-loop μ-loop
 mark-end-requires c κs = search needs
 
 element-copy-out-belongs-3 : tie.Need-element-copy-out-belongs-3 Inv-loop μ-loop
-element-copy-out-belongs-3 c = omega (arith, second-end (c .before .before .before .before .before .before .before .before .before))
+element-copy-out-belongs-3 c = omega (arith, ends (c .before .before .before .before .before .before .before .before .before))
 
 element-copy-out-belongs-4 : tie.Need-element-copy-out-belongs-4 Inv-loop μ-loop
-element-copy-out-belongs-4 c = omega (arith, second-end (c .before .before .before .before .before .before .before .before .before .before))
+element-copy-out-belongs-4 c = omega (arith, ends (c .before .before .before .before .before .before .before .before .before .before))
 
 belongs-requires-2 : tie.Need-belongs-requires-2 Inv-loop μ-loop
 belongs-requires-2 c κs = search needs
 
 mul-mark-end-2 : tie.Need-mul-mark-end-2 Inv-loop μ-loop
-mul-mark-end-2 c = omega (arith, first-end (c .before .before .before .before .before .before .before .before .before .before .before .before))
+mul-mark-end-2 c = omega (arith, ends (c .before .before .before .before .before .before .before .before .before .before .before .before))
 
 array-read-mark-end-2 : tie.Need-array-read-mark-end-2 Inv-loop μ-loop
-array-read-mark-end-2 c = omega (arith, first-end (c .before .before .before .before .before .before .before .before .before .before .before .before))
+array-read-mark-end-2 c = omega (arith, ends (c .before .before .before .before .before .before .before .before .before .before .before .before))
 
 mark-end-requires-2 : tie.Need-mark-end-requires-2 Inv-loop μ-loop
 mark-end-requires-2 c κs = search needs
@@ -101,11 +97,11 @@ loop-again c =
     let s = t .before .before .before .before in
     let member = member-test (s .args .t1) (s .args .y) (s .args .storage .now) (s .args .labels .now) (s .pre .0) (s .pre .1) in (
       search needs,
-      signal-turn (s .args .t1) (s .args .y) (t .before .loop .i) (t .before .loop .inv .1) (first-end t) (second-end t)
+      signal-turn (s .args .t1) (s .args .y) (t .before .loop .i) (t .before .loop .inv .1) (ends t .0) (ends t .1)
           (t .before .before .before .input-labels .ensures)
-          (c .before .before .before .before .before .before .belongs .ensures ∙ member _ (first-end t))
+          (c .before .before .before .before .before .before .belongs .ensures ∙ member _ (ends t .0))
           (c .before .before .before .before .before .mark-end .ensures)
-          (c .before .belongs2 .ensures ∙ member _ (second-end t))
+          (c .before .belongs2 .ensures ∙ member _ (ends t .1))
           (c .mark-end2 .ensures),
     )
 
