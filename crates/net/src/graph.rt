@@ -37,7 +37,7 @@ pub fn storage_flags(net: Net) -> [u8; Net::VERTEX_PLACES]
 }
 
 // The first end of each edge, in use or not.
-pub fn first_ends(net: Net) -> [u8; Net::MOST_EDGES]
+pub(crate) fn first_ends(net: Net) -> [u8; Net::MOST_EDGES]
     ensures { λ r. ⌜ r ≡ firstEnds net ⌝ }
 {
     let mut ends = [0u8; Net::MOST_EDGES];
@@ -48,7 +48,7 @@ pub fn first_ends(net: Net) -> [u8; Net::MOST_EDGES]
 }
 
 // And the second.
-pub fn second_ends(net: Net) -> [u8; Net::MOST_EDGES]
+pub(crate) fn second_ends(net: Net) -> [u8; Net::MOST_EDGES]
     ensures { λ r. ⌜ r ≡ secondEnds net ⌝ }
 {
     let mut ends = [0u8; Net::MOST_EDGES];
@@ -68,7 +68,7 @@ fn both(a: u8, b: u8) -> u8
 }
 
 // 1 at each edge in use that joins storage vertices, 0 elsewhere.
-pub fn inner_flags(net: Net, storage: &[u8; Net::VERTEX_PLACES]) -> [u8; Net::MOST_EDGES]
+pub(crate) fn inner_flags(net: Net, storage: &[u8; Net::VERTEX_PLACES]) -> [u8; Net::MOST_EDGES]
     requires { ⌜ Readable net × (now storage ≡ storageFlags net) ⌝ }
     ensures { λ r. ⌜ r ≡ innerFlags net ⌝ }
 {
@@ -108,7 +108,7 @@ pub fn key_flags(net: Net, storage: &[u8; Net::VERTEX_PLACES]) -> [u8; Net::VERT
 }
 
 // How many flags are 1.
-pub fn count_flags(flags: &[u8]) -> usize
+pub(crate) fn count_flags(flags: &[u8]) -> usize
     ensures { λ r. ⌜ r ≡ countBelow (length (now (flags .entry))) (λ i. eqb (getD (now (flags .entry)) i 0) 1) ⌝ }
 {
     let mut count: usize = 0;

@@ -39,7 +39,7 @@ fn own_labels() -> [u8; Net::VERTEX_PLACES]
 }
 
 // Labels after the first count edges: edge i joins first[i] and second[i], if on[i] is 1.
-pub fn class_labels<'a>(
+pub(crate) fn class_labels<'a>(
     first: &'a [u8; Net::MOST_EDGES],
     second: &'a [u8; Net::MOST_EDGES],
     on: &'a [u8; Net::MOST_EDGES],

@@ -80,7 +80,7 @@ fn edge_line_ok(net: Net, v: Line) -> bool
 }
 
 // The record with line j, or the number of its refusal.
-pub fn add_line(net: Net, j: usize, v: Line) -> Added
+pub(crate) fn add_line(net: Net, j: usize, v: Line) -> Added
     requires { ⌜ (j < net .«vertex_count» + net .«edge_count») × (net .«vertex_count» ≤ mostVertices) × (net .«edge_count» ≤ mostEdges) ⌝ }
     ensures { λ r. ⌜ r ≡ addedOf net (addLine net j v) ⌝ }
 {

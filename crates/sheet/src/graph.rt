@@ -184,7 +184,7 @@ fn signal_row(net: Net) -> Found
 }
 
 // The first of the rows over the graph.
-pub fn graph_answer(net: Net) -> Answer
+pub(crate) fn graph_answer(net: Net) -> Answer
     requires { ⌜ Checked net ⌝ }
     ensures { λ r. ⌜ r ≡ answered (firstRow (graphRows net)) ⌝ }
 {

@@ -1,21 +1,21 @@
 //! The sheet: its lines, what reading one answers, and the record that an accepted sheet gives.
-//! What a sheet means stands in specs/, the laws of it in proofs/.
+//! What a sheet means stands in specs/, the laws of it in proofs/. The functions, from the bottom up: one field, the five numbers of a line, job
+//! lines, the values that a line may have, the lines below the header, the rows over the graph, the record test, the reader.
 
 ghost use mathlib.Core.Path.{_≡_};
 ghost use Rattle.sheet.specs.Limits.{widths};
 
+pub mod body;
+pub mod fields;
 pub mod graph;
+pub mod jobs;
+pub mod lines;
 pub mod reader;
 pub mod record;
+pub mod rules;
 pub mod tests;
 
 use net::Net;
-
-pub mod body; // body.rt: the lines below the header
-pub mod fields; // fields.rt: one field
-pub mod jobs; // jobs.rt: job lines
-pub mod lines; // lines.rt: the five numbers of a line, and one line of a sheet
-pub mod rules; // rules.rt: the values that a line may have
 
 // Lines of five fields, four columns each, ended by byte 10.
 pub struct Sheet;

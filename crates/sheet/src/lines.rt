@@ -24,7 +24,7 @@ fn field_of(part: &[u8], i: usize) -> Field
 }
 
 // The numbers of a line, which is five fields and the byte that ends it.
-pub fn read_line(part: &[u8]) -> LineRead
+pub(crate) fn read_line(part: &[u8]) -> LineRead
     ensures { λ r. ⌜ r ≡ lineAnswer (readLine (now (part .entry))) ⌝ }
 {
     if part.len() != Sheet::LINE_WIDTH {

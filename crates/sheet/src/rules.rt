@@ -3,7 +3,7 @@
 ghost use mathlib.Core.Path.{_≡_};
 ghost use mathlib.Core.Bool.{_&&_};
 ghost use lib.Dec.{leb};
-ghost use Rattle.net.specs.Symbols.{within, isVariable};
+ghost use Rattle.net.specs.Symbols.{within};
 ghost use Rattle.net.specs.Graph.{isStorage};
 ghost use Rattle.net.specs.Known.{knownSymbol, knownLabel};
 ghost use Rattle.sheet.specs.Rules.{countsOk, headerOk, vertexOk, symbolOk, edgeOk, formOf};
@@ -38,7 +38,7 @@ fn form_of(form: u8) -> Form
 }
 
 // Whether the counts of a header are within the limits; there is at least one vertex.
-pub fn counts_ok(vertices: usize, edges: usize, letters: usize) -> bool
+pub(crate) fn counts_ok(vertices: usize, edges: usize, letters: usize) -> bool
     ensures { λ r. ⌜ r ≡ countsOk vertices edges letters ⌝ }
 {
     if vertices == 0 {
@@ -54,7 +54,7 @@ pub fn counts_ok(vertices: usize, edges: usize, letters: usize) -> bool
 }
 
 // A header is 1, vertices, edges, letters and the edition.
-pub fn header_ok(h: Line) -> bool
+pub(crate) fn header_ok(h: Line) -> bool
     ensures { λ r. ⌜ r ≡ headerOk h ⌝ }
 {
     if h.kind != Line::HEADER {
@@ -118,20 +118,8 @@ fn known_symbol(net: Net, s: Symbol) -> bool
     }
 }
 
-// Whether the symbol's value depends on the state.
-fn is_variable(s: Symbol) -> bool
-    ensures { λ r. ⌜ r ≡ isVariable s ⌝ }
-{
-    match s {
-        Symbol::Constant(_) => false,
-        Symbol::Letter(_) => true,
-        Symbol::Vertex(_) => true,
-        Symbol::Unknown => false,
-    }
-}
-
 // An input vertex has a known label, a storage vertex the label 0.
-pub fn vertex_ok(net: Net, x: Vertex) -> bool
+pub(crate) fn vertex_ok(net: Net, x: Vertex) -> bool
     ensures { λ r. ⌜ r ≡ vertexOk net x ⌝ }
 {
     let role = x.role;
@@ -150,7 +138,7 @@ fn symbol_ok(net: Net, e: Edge) -> bool
     match form_of(e.form) {
         Form::Plain => known_symbol(net, s),
         Form::Primed(_) => {
-            if is_variable(s) {
+            if symbols::is_variable(s) {
                 return known_symbol(net, s);
             }
             false
@@ -160,7 +148,7 @@ fn symbol_ok(net: Net, e: Edge) -> bool
 }
 
 // An edge joins two vertices that differ.
-pub fn edge_ok(net: Net, e: Edge) -> bool
+pub(crate) fn edge_ok(net: Net, e: Edge) -> bool
     ensures { λ r. ⌜ r ≡ edgeOk net e ⌝ }
 {
     if !is_vertex(net.vertex_count, e.end1) {
