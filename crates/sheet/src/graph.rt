@@ -28,10 +28,15 @@ fn is_partner(e: Edge, f: Edge) -> bool
     requires { ⌜ e .form ≤ 3 ⌝ }
     ensures { λ r. ⌜ r ≡ isPartner e f ⌝ }
 {
-    let alike = both(f.form == 3 - e.form, f.symbol == e.symbol);
+    if f.form != 3 - e.form {
+        return false;
+    }
+    if f.symbol != e.symbol {
+        return false;
+    }
     let along = both(f.end1 == e.end1, f.end2 == e.end2);
     let across = both(f.end1 == e.end2, f.end2 == e.end1);
-    both(alike, either(along, across))
+    either(along, across)
 }
 
 // Has edge i a partner among the edges in use?
