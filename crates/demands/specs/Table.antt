@@ -49,8 +49,8 @@ abbrev example : Question → List ℕ → Example
 example q e = record { question = q; expected = e }
 
 -- the bytes of a job's answer: three numbers, then the characters of r and t with X as byte 4
-abbrev pub table : List Example
-table =
+abbrev pub benchExamples : List Example
+benchExamples =
     -- the four jobs of the worked example
     example (settling worked (bytes "   4   0   1   1   0\n")) (0 ∷ 1 ∷ 0 ∷ 4 ∷ 4 ∷ [])
     ∷ example (settling worked (bytes "   4   0   0   1   0\n")) (0 ∷ 0 ∷ 0 ∷ 1 ∷ 1 ∷ [])

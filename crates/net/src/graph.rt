@@ -4,14 +4,13 @@ use crate::symbols;
 use crate::walk;
 ghost use mathlib.Core.Path.{_≡_};
 ghost use mathlib.Core.Bool.{_&&_, _||_};
-ghost use Prim.Native.Nat.{suc, _≤_};
+ghost use Prim.Native.Nat.{_≤_};
 ghost use lib.Dec.{eqb};
-ghost use lib.ListN.{length, getD, take};
+ghost use lib.ListN.{length, getD};
 ghost use Rattle.ternary.specs.Bits.{digit};
 ghost use Rattle.ternary.specs.Lists.{countBelow};
 ghost use Rattle.net.specs.Limits.{mostVertices};
 ghost use Rattle.net.specs.Graph.{keyCount};
-ghost use Rattle.net.specs.Component.{components};
 ghost use Rattle.net.specs.Tables.{Readable, storageFlags, firstEnds, secondEnds, innerFlags, componentLabels, keyFlags};
 
 fn storage_flag(role: u8) -> u8
@@ -84,7 +83,7 @@ pub(crate) fn inner_flags(net: Net, storage: &[u8; Net::VERTEX_PLACES]) -> [u8; 
 // The label of each vertex's component: the walk over the edges that join storage vertices.
 pub fn component_labels(net: Net, storage: &[u8; Net::VERTEX_PLACES]) -> [u8; Net::VERTEX_PLACES]
     requires { ⌜ Readable net × (now storage ≡ storageFlags net) ⌝ }
-    ensures { λ r. ⌜ (r ≡ componentLabels net) × (take (suc (net .«vertex_count»)) r ≡ components net) ⌝ }
+    ensures { λ r. ⌜ r ≡ componentLabels net ⌝ }
 {
     let first = first_ends(net);
     let second = second_ends(net);

@@ -22,7 +22,8 @@ use Rattle.sheet.specs.declared.graph.Found.the-variants.{At, Nothing}
 use Rattle.sheet.specs.Rows.{answer, firstRow, answered, NoRow}
 use Rattle.sheet.specs.Rows.NoRow.{end, next}
 use Rattle.sheet.specs.Rules.{primed}
-use Rattle.sheet.specs.Graph.{isPartner, lacksPartner, edgePlace, partnerPlace, keyPlace, overSignals, signalPlace, graphRows, foundOf}
+use Rattle.sheet.specs.Graph.{isPartner, lacksPartner, edgePlace, partnerPlace, keyPlace, overSignals, signalPlace, graphRows}
+use Rattle.sheet.specs.Search.{foundOf}
 use Rattle.sheet.proofs.Places.{get-none, get-some}
 use Rattle.sheet.proofs.RowLaws.{first-none}
 

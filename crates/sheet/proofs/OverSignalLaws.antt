@@ -24,7 +24,8 @@ use Rattle.net.proofs.Components.{same-component-iff}
 use Rattle.net.proofs.SignalLists.{signals-component}
 use Rattle.net.proofs.SignalFlags.{member-test}
 use Rattle.sheet.specs.declared.graph.Found.the-variants.{At, Nothing}
-use Rattle.sheet.specs.Graph.{overSignals, joinsLower, signalPlace, foundOf}
+use Rattle.sheet.specs.Graph.{overSignals, signalPlace}
+use Rattle.sheet.specs.Search.{joinsLower, foundOf}
 
 module _ (N : Net) {storage labels : List ℕ} (p : Prepared N storage labels) (y : ℕ) (low : y ≤ mostVertices) where
   pub flag-set : getD storage y 0 ≡ 1 → isStorage N y ≡ true

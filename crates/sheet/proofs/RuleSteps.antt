@@ -26,6 +26,14 @@ form-plain zero h = refl
 form-plain (suc zero) h = refl
 form-plain (suc (suc f)) h = absurd (omega arith)
 
+pub form-primed : (f : ℕ) → 1 < f → f ≤ 3 → Primed ≡ formOf f
+unfolding formOf
+form-primed zero h l = absurd (omega arith)
+form-primed (suc zero) h l = absurd (omega arith)
+form-primed (suc (suc zero)) h l = refl
+form-primed (suc (suc (suc zero))) h l = refl
+form-primed (suc (suc (suc (suc f)))) h l = absurd (omega arith)
+
 pub form-unknown : (f : ℕ) → 3 < f → Unknown ≡ formOf f
 unfolding formOf
 form-unknown zero h = absurd (omega arith)
@@ -65,7 +73,7 @@ module _ (N : Net) (v : ℕ) where
 
 symbolBy : Form → Bool → Bool → Bool
 symbolBy Plain known variable = known
-symbolBy (Primed partner) known variable = known && variable
+symbolBy Primed known variable = known && variable
 symbolBy Unknown known variable = false
 
 symbol-by : (f : ℕ) (known variable : Bool) → (leb f 3 && (known && (not (primed f) || variable))) ≡ symbolBy (formOf f) known variable
@@ -85,13 +93,13 @@ module _ (N : Net) (e : Edge) (s : Symbol) (is : s ≡ decode (e .symbol)) where
   unfolding symbolBy
   plain-symbol h = rw (tests, ← h)
 
-  pub primed-symbol : (p : ℕ) → Primed p ≡ formOf (e .form) → isVariable s ≡ true → knownSymbol N s ≡ (leb (e .form) 3 && symbolOk N e)
+  pub primed-symbol : Primed ≡ formOf (e .form) → isVariable s ≡ true → knownSymbol N s ≡ (leb (e .form) 3 && symbolOk N e)
   unfolding symbolBy
-  primed-symbol p h v = rw (tests, ← h, v) (sym (and-true (knownSymbol N s)))
+  primed-symbol h v = rw (tests, ← h, v) (sym (and-true (knownSymbol N s)))
 
-  pub primed-constant : (p : ℕ) → Primed p ≡ formOf (e .form) → isVariable s ≡ false → false ≡ (leb (e .form) 3 && symbolOk N e)
+  pub primed-constant : Primed ≡ formOf (e .form) → isVariable s ≡ false → false ≡ (leb (e .form) 3 && symbolOk N e)
   unfolding symbolBy
-  primed-constant p h v = rw (tests, ← h, v) (sym (and-false (knownSymbol N s)))
+  primed-constant h v = rw (tests, ← h, v) (sym (and-false (knownSymbol N s)))
 
   pub unknown-form : Unknown ≡ formOf (e .form) → false ≡ (leb (e .form) 3 && symbolOk N e)
   unfolding symbolBy

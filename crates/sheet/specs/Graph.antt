@@ -4,16 +4,13 @@ use mathlib.Core.Bool.{Bool, not, _&&_, _||_}
 use mathlib.Core.List.{List, [], _∷_}
 use mathlib.Core.Option.{Option, none, some, Option·map}
 use lib.Dec.{ltb, eqb}
-use lib.ListN.{getD, getElem?}
+use lib.ListN.{getElem?}
 use Rattle.ternary.specs.Lists.{anyBelow, leastBelow}
 use Rattle.net.specs.Limits.{mostKeyNodes, mostSignals}
 use Rattle.net.specs.Graph.{edgeAt, isStorage, keys}
-use Rattle.net.specs.Classes.{sameLabel}
 use Rattle.net.specs.SignalTable.{signalCount}
 use Rattle.net.specs.declared.Edge.{Edge}
 use Rattle.net.specs.declared.Net.{Net}
-use Rattle.sheet.specs.declared.graph.Found.{Found}
-use Rattle.sheet.specs.declared.graph.Found.the-variants.{At, Nothing}
 use Rattle.sheet.specs.Rows.{Row, row}
 use Rattle.sheet.specs.Rules.{primed}
 
@@ -44,18 +41,9 @@ keyPlace N = getElem? (keys N) mostKeyNodes
 unfoldable pub overSignals : Net → ℕ → Bool
 overSignals N y = isStorage N y && ltb mostSignals (signalCount N y)
 
--- by tables of storage flags and of labels, y has the label of a storage vertex below it
-unfoldable pub joinsLower : List ℕ → List ℕ → ℕ → Bool
-joinsLower storage labels y = anyBelow y (λ x. eqb (getD storage x 0) 1 && sameLabel labels y x)
-
 -- 23: the lowest vertex of any such component
 unfoldable pub signalPlace : Net → Option ℕ
 signalPlace N = leastBelow (suc (N .«vertex_count»)) (overSignals N)
 
 unfoldable pub graphRows : Net → List Row
 graphRows N = row 21 (partnerPlace N) ∷ row 22 (keyPlace N) ∷ row 23 (signalPlace N) ∷ []
-
--- the code's answer for a place that may be missing
-abbrev pub foundOf : Option ℕ → Found
-foundOf none = Nothing
-foundOf (some p) = At p

@@ -6,6 +6,7 @@ pub mod Rows
 pub mod Record
 pub mod Rules
 pub mod Graph
+pub mod Search
 pub mod Checked
 pub mod Reading
 pub mod Writing

@@ -28,12 +28,12 @@ vertexOk N x = cond (eqb (x .role) 0) (knownLabel N (decode (x .label))) (leb (x
 abbrev pub primed : ℕ → Bool
 primed form = leb 2 form
 
--- a form as the code tells it: an edge of form 2 needs a partner of form 1, one of form 3 a partner of form 0
+-- a form as the code tells it
 unfoldable pub formOf : ℕ → Form
 formOf zero = Plain
 formOf (suc zero) = Plain
-formOf (suc (suc zero)) = Primed 1
-formOf (suc (suc (suc zero))) = Primed 0
+formOf (suc (suc zero)) = Primed
+formOf (suc (suc (suc zero))) = Primed
 formOf (suc (suc (suc (suc f)))) = Unknown
 
 -- the symbol is a constant, a letter of the net or a storage vertex; a primed form has no constant

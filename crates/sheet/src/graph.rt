@@ -9,7 +9,8 @@ ghost use Rattle.net.specs.Tables.{keyFlags, Prepared};
 ghost use Rattle.net.specs.Graph.{edgeAt};
 ghost use Rattle.sheet.specs.Rows.{firstRow, answered};
 ghost use Rattle.sheet.specs.Checked.{Checked};
-ghost use Rattle.sheet.specs.Graph.{isPartner, lacksPartner, partnerPlace, keyPlace, overSignals, joinsLower, signalPlace, graphRows, foundOf};
+ghost use Rattle.sheet.specs.Graph.{isPartner, lacksPartner, partnerPlace, keyPlace, overSignals, signalPlace, graphRows};
+ghost use Rattle.sheet.specs.Search.{foundOf, joinsLower};
 use crate::Answer;
 use crate::tests::both;
 use crate::tests::either;
@@ -85,6 +86,7 @@ fn partner_place(net: Net) -> Found
     Found::Nothing
 }
 
+// A flag as a number to add up; a byte's bound keeps the sum in range.
 fn wide(x: u8) -> usize
     ensures { λ r. ⌜ (r ≡ x) × (r < 256) ⌝ }
 {

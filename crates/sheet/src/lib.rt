@@ -68,10 +68,10 @@ pub enum LineRead {
     Refused,
 }
 
-// The form of an edge: a primed one names the form that its partner must have.
+// What the form of an edge is: plain, or primed, and then in need of a partner.
 pub enum Form {
     Plain,
-    Primed(u8),
+    Primed,
     Unknown,
 }
 

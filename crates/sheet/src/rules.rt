@@ -25,14 +25,13 @@ const OUTPUT: u8 = 2;
 // The edition that this reader knows.
 const EDITION: u16 = 1;
 
-// What a form is: plain, or primed with the form that its partner has.
+// What a form is.
 fn form_of(form: u8) -> Form
     ensures { λ r. ⌜ r ≡ formOf form ⌝ }
 {
     match form {
         0..=1 => Form::Plain,
-        2 => Form::Primed(1),
-        3 => Form::Primed(0),
+        2..=3 => Form::Primed,
         _ => Form::Unknown,
     }
 }
@@ -137,7 +136,7 @@ fn symbol_ok(net: Net, e: Edge) -> bool
     let s = symbols::decoded(e.symbol);
     match form_of(e.form) {
         Form::Plain => known_symbol(net, s),
-        Form::Primed(_) => {
+        Form::Primed => {
             if symbols::is_variable(s) {
                 return known_symbol(net, s);
             }

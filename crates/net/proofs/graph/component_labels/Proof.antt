@@ -1,8 +1,7 @@
 -- `net::graph::component_labels` meets its contract: the walk over the tables of ends. Assumes nothing.
 use borrow.Author.Needs.{needs}
-use mathlib.Core.Path.{_≡_, _∙_}
-use Rattle.net.specs.Tables.{componentLabels}
-use Rattle.net.proofs.TableLaws.{joinable, walk-labels, component-labels-in-use}
+use mathlib.Core.Path.{_∙_}
+use Rattle.net.proofs.TableLaws.{joinable, walk-labels}
 use Rattle.net.proofs.graph.component_labels.Statement.{statement}
 use Rattle.net.proofs.graph.component_labels.Tie as tie
 
@@ -27,11 +26,9 @@ class-labels-requires c κs =
 returns : tie.Need-returns
 returns c =
     let s = c .before .before .before .before .before .before .before .before in
-    let e : c .class-labels .result ≡ componentLabels (s .args .net) =
     c .class-labels .ensures
     ∙ rw (c .before .before .before .before .before .before .before .first-ends .ensures, c .before .before .before .before .before .before .second-ends .ensures, c .before .before .before .before .before .inner-flags .ensures)
-    (walk-labels (s .args .net) (s .pre .0)) in
-    (e, rw e (component-labels-in-use (s .args .net) (s .pre .0 .vertices)))
+    (walk-labels (s .args .net) (s .pre .0))
 
 pub component-labels-spec : {M : Type 1} → statement M
 component-labels-spec =

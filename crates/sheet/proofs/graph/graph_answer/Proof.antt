@@ -1,7 +1,8 @@
 -- The rows in turn: the first place found answers.
 use mathlib.Core.Path.{_≡_, sym, _∙_}
 use Rattle.sheet.specs.declared.graph.Found.the-variants.{Nothing}
-use Rattle.sheet.specs.Graph.{partnerPlace, keyPlace, foundOf}
+use Rattle.sheet.specs.Graph.{partnerPlace, keyPlace}
+use Rattle.sheet.specs.Search.{foundOf}
 use Rattle.sheet.proofs.CheckedLaws.{checked-counts, checked-form}
 use Rattle.sheet.proofs.GraphLaws.{answer-21, answer-22, answer-23, answer-none}
 use borrow.Author.Needs.{needs}

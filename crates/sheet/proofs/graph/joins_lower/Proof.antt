@@ -9,7 +9,7 @@ use lib.ListN.{getD}
 use Rattle.ternary.specs.Lists.{anyBelow}
 use Rattle.ternary.proofs.ListLaws.{any-of, any-more}
 use Rattle.net.specs.Classes.{sameLabel}
-use Rattle.sheet.specs.Graph.{joinsLower}
+use Rattle.sheet.specs.Search.{joinsLower}
 use Rattle.sheet.proofs.graph.joins_lower.Statement.{statement}
 use Rattle.sheet.proofs.graph.joins_lower.Tie as tie
 

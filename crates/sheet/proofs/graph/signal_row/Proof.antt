@@ -1,6 +1,7 @@
 -- Each call gets the tables that the ones before made.
 use Rattle.sheet.proofs.CheckedLaws.{checked-counts, checked-readable}
 use borrow.Author.Needs.{needs}
+use Rattle.net.proofs.TableLaws.{component-labels-in-use}
 use Rattle.sheet.proofs.graph.signal_row.Statement.{statement}
 use Rattle.sheet.proofs.graph.signal_row.Tie as tie
 
@@ -14,7 +15,7 @@ signal-place-requires : tie.Need-signal-place-requires
 signal-place-requires c κs =
     let l = c .before .before in
     let s = l .before .before in
-    record { readable = checked-readable _ (s .before .pre); flags = s .storage-flags .ensures; labelled = l .component-labels .ensures .1 }
+    record { readable = checked-readable _ (s .before .pre); flags = s .storage-flags .ensures; labelled = rw (l .component-labels .ensures) (component-labels-in-use _ (checked-counts _ (s .before .pre) .vertices)) }
 
 returns : tie.Need-returns
 returns c = search needs

@@ -30,7 +30,7 @@ returns : tie.Need-returns
 returns c =
     let t = c .before .before .before in
     let f = t .before .before in
-    c .known-symbol2 .ensures ∙ primed-symbol _ _ _ (f .before .decoded .ensures) _ (sym (t .enum-told2 .given .1) ∙ f .form-of .ensures)
+    c .known-symbol2 .ensures ∙ primed-symbol _ _ _ (f .before .decoded .ensures) (sym (t .enum-told2 .given .1) ∙ f .form-of .ensures)
     (sym (c .before .before .is-variable .ensures) ∙ c .before .if1 .taken)
 
 enum-told-3 : tie.Need-enum-told-3
@@ -45,7 +45,7 @@ returns-3 : tie.Need-returns-3
 returns-3 c =
     let t = c .before .before in
     let f = t .before .before in
-    primed-constant _ _ _ (f .before .decoded .ensures) _ (sym (t .enum-told2 .given .1) ∙ f .form-of .ensures)
+    primed-constant _ _ _ (f .before .decoded .ensures) (sym (t .enum-told2 .given .1) ∙ f .form-of .ensures)
     (sym (c .before .is-variable .ensures) ∙ c .if1 .left)
 
 returns-4 : tie.Need-returns-4
