@@ -18,7 +18,7 @@ use Rattle.net.proofs.Keys.{key-at, key-storage}
 use Rattle.ternary.specs.Lists.{anyBelow, leastBelow}
 use Rattle.ternary.proofs.Tests.{ands, both, or-true, or-left, or-right, fails, not-both, by-test}
 use Rattle.ternary.proofs.ListLaws.{any-found, any-of, least-none, least-some, least-none-iff, least-some-iff}
-use Rattle.sheet.specs.declared.graph.Found.the-variants.{At, Nothing}
+use Rattle.sheet.specs.declared.Found.the-variants.{At, Nothing}
 use Rattle.sheet.specs.Rows.{answer, firstRow, answered, NoRow}
 use Rattle.sheet.specs.Rows.NoRow.{end, next}
 use Rattle.sheet.specs.Rules.{primed}

@@ -14,7 +14,7 @@ use Rattle.net.specs.declared.Net.{Net}
 use Rattle.net.specs.Limits.{mostVertices, mostKeyNodes}
 use Rattle.net.specs.Graph.{isKey, keys, keyCount, keyVertex}
 use Rattle.net.specs.Tables.{keyFlags}
-use Rattle.sheet.specs.declared.graph.Found.the-variants.{At, Nothing}
+use Rattle.sheet.specs.declared.Found.the-variants.{At, Nothing}
 use Rattle.sheet.specs.Graph.{keyPlace}
 use Rattle.sheet.specs.Search.{foundOf}
 use Rattle.sheet.proofs.GraphLaws.{key-none, key-some}

@@ -23,7 +23,7 @@ use Rattle.net.proofs.TableLaws.{storage-test}
 use Rattle.net.proofs.Components.{same-component-iff}
 use Rattle.net.proofs.SignalLists.{signals-component}
 use Rattle.net.proofs.SignalFlags.{member-test}
-use Rattle.sheet.specs.declared.graph.Found.the-variants.{At, Nothing}
+use Rattle.sheet.specs.declared.Found.the-variants.{At, Nothing}
 use Rattle.sheet.specs.Graph.{overSignals, signalPlace}
 use Rattle.sheet.specs.Search.{joinsLower, foundOf}
 

@@ -7,8 +7,8 @@ use lib.Dec.{eqb}
 use lib.ListN.{getD}
 use Rattle.ternary.specs.Lists.{anyBelow}
 use Rattle.net.specs.Classes.{sameLabel}
-use Rattle.sheet.specs.declared.graph.Found.{Found}
-use Rattle.sheet.specs.declared.graph.Found.the-variants.{At, Nothing}
+use Rattle.sheet.specs.declared.Found.{Found}
+use Rattle.sheet.specs.declared.Found.the-variants.{At, Nothing}
 
 -- a place that may be missing
 abbrev pub foundOf : Option ℕ → Found

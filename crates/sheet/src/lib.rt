@@ -1,20 +1,8 @@
 //! The sheet: its lines, what reading one answers, and the record that an accepted sheet gives.
-//! What a sheet means stands in specs/, the laws of it in proofs/. The functions, from the bottom up: one field, the five numbers of a line, job
-//! lines, the values that a line may have, the lines below the header, the rows over the graph, the record test, the reader.
+//! What a sheet means stands in specs/, the laws of it in proofs/. The functions over it are in the crates `lines` and `reader`.
 
 ghost use mathlib.Core.Path.{_≡_};
 ghost use Rattle.sheet.specs.Limits.{widths};
-
-pub mod body;
-pub mod fields;
-pub mod graph;
-pub mod jobs;
-pub mod lines;
-pub mod reader;
-pub mod record;
-pub mod rules;
-pub mod tests;
-
 use net::Net;
 
 // Lines of five fields, four columns each, ended by byte 10.
@@ -101,6 +89,12 @@ impl Answer {
     pub const MANY_SIGNALS: u8 = 23;
     // The sheet has no full line of the number asked for.
     pub const NO_LINE: u8 = 47;
+}
+
+// The place of a row, if its condition holds.
+pub enum Found {
+    At(u16),
+    Nothing,
 }
 
 // What one line does to the record: number 0 and the record with it, or the number of a refusal and the record as it was.

@@ -5,14 +5,12 @@ ghost use Prim.Native.Nat.{_≤_, _<_};
 ghost use lib.ListN.{length};
 use libc::STDIN_FILENO;
 use libc::STDOUT_FILENO;
+use lines::fields;
+use lines::jobs;
+use reader::record;
 use sheet::Field;
 use sheet::JobLine;
 use sheet::Sheet;
-use sheet::fields;
-use sheet::jobs;
-use sheet::lines;
-use sheet::reader;
-use sheet::record;
 
 // A number in four columns.
 fn print_column(n: u64) {
@@ -30,7 +28,7 @@ fn print_column(n: u64) {
 
 // A sheet: number, place, and whether the record is one.
 fn print_reading(sheet: &[u8]) {
-    let reading = reader::read(sheet);
+    let reading = reader::reader::read(sheet);
     let answer = reading.answer;
     let net = reading.net;
     print_column(answer.number as u64);
@@ -40,8 +38,8 @@ fn print_reading(sheet: &[u8]) {
 
 // One line of a sheet: number, and how many bytes are handed back.
 fn print_line(sheet: &[u8], n: usize) {
-    print_column(lines::line_answer(sheet, n) as u64);
-    print_column(lines::line(sheet, n).len() as u64);
+    print_column(lines::lines::line_answer(sheet, n) as u64);
+    print_column(lines::lines::line(sheet, n).len() as u64);
 }
 
 // A job line: 0 and its three numbers, or 46 and zeros.
