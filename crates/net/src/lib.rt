@@ -1,11 +1,5 @@
 //! The record of a net, the report's CMOS graph: its vertices, its edges and how many letters it has.
-//! What a net means stands in specs/, the laws of it in proofs/. The functions: symbols by number, the walk over edges, the tables of a
-//! graph, and the signals of a component.
-
-pub mod graph;
-pub mod signals;
-pub mod symbols;
-pub mod walk;
+//! What a net means stands in specs/, the laws of it in proofs/. The functions over it are in the crate `graph`.
 
 ghost use mathlib.Core.Path.{_≡_};
 ghost use Rattle.net.specs.Limits.{limits};

@@ -13,9 +13,10 @@ ghost use Rattle.sheet.specs.Graph.{isPartner, lacksPartner, partnerPlace, keyP
 ghost use Rattle.sheet.specs.Search.{foundOf, joinsLower};
 use crate::tests::both;
 use crate::tests::either;
+use graph::signals;
+use graph::tables;
 use net::Edge;
 use net::Net;
-use net::signals;
 use sheet::Answer;
 use sheet::Found;
 
@@ -170,8 +171,8 @@ fn key_row(net: Net) -> Found
     requires { ⌜ Checked net ⌝ }
     ensures { λ r. ⌜ r ≡ foundOf (keyPlace net) ⌝ }
 {
-    let storage = net::graph::storage_flags(net);
-    let keys = net::graph::key_flags(net, &storage);
+    let storage = tables::storage_flags(net);
+    let keys = tables::key_flags(net, &storage);
     key_place(net, &keys)
 }
 
@@ -180,8 +181,8 @@ fn signal_row(net: Net) -> Found
     requires { ⌜ Checked net ⌝ }
     ensures { λ r. ⌜ r ≡ foundOf (signalPlace net) ⌝ }
 {
-    let storage = net::graph::storage_flags(net);
-    let labels = net::graph::component_labels(net, &storage);
+    let storage = tables::storage_flags(net);
+    let labels = tables::component_labels(net, &storage);
     signal_place(net, &storage, &labels)
 }
 

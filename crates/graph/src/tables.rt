@@ -1,0 +1,130 @@
+//! The graph of a net as tables of bytes: an entry for each edge, or for each vertex number from 0.
+use crate::symbols;
+use crate::walk;
+use net::Net;
+ghost use mathlib.Core.Path.{_≡_};
+ghost use mathlib.Core.Bool.{_&&_, _||_};
+ghost use Prim.Native.Nat.{_≤_};
+ghost use lib.Dec.{eqb};
+ghost use lib.ListN.{length, getD};
+ghost use Rattle.ternary.specs.Bits.{digit};
+ghost use Rattle.ternary.specs.Lists.{countBelow};
+ghost use Rattle.net.specs.Limits.{mostVertices};
+ghost use Rattle.net.specs.Graph.{keyCount};
+ghost use Rattle.net.specs.Tables.{Readable, storageFlags, firstEnds, secondEnds, innerFlags, componentLabels, keyFlags};
+
+fn storage_flag(role: u8) -> u8
+    ensures { λ r. ⌜ r ≡ digit (eqb role 1 || eqb role 2) ⌝ }
+{
+    match role {
+        1..=2 => 1,
+        _ => 0,
+    }
+}
+
+// 1 at each storage vertex, 0 elsewhere.
+pub fn storage_flags(net: Net) -> [u8; Net::VERTEX_PLACES]
+    requires { ⌜ net .«vertex_count» ≤ mostVertices ⌝ }
+    ensures { λ r. ⌜ r ≡ storageFlags net ⌝ }
+{
+    let mut flags = [0u8; Net::VERTEX_PLACES];
+    let count = net.vertex_count as usize;
+    for i in 0..count {
+        flags[i + 1] = storage_flag(net.vertices[i].role);
+    }
+    flags
+}
+
+// The first end of each edge, in use or not.
+pub(crate) fn first_ends(net: Net) -> [u8; Net::MOST_EDGES]
+    ensures { λ r. ⌜ r ≡ firstEnds net ⌝ }
+{
+    let mut ends = [0u8; Net::MOST_EDGES];
+    for i in 0..Net::MOST_EDGES {
+        ends[i] = net.edges[i].end1;
+    }
+    ends
+}
+
+// And the second.
+pub(crate) fn second_ends(net: Net) -> [u8; Net::MOST_EDGES]
+    ensures { λ r. ⌜ r ≡ secondEnds net ⌝ }
+{
+    let mut ends = [0u8; Net::MOST_EDGES];
+    for i in 0..Net::MOST_EDGES {
+        ends[i] = net.edges[i].end2;
+    }
+    ends
+}
+
+fn both(a: u8, b: u8) -> u8
+    ensures { λ r. ⌜ r ≡ digit (eqb a 1 && eqb b 1) ⌝ }
+{
+    if a != 1 {
+        return 0;
+    }
+    if b == 1 { 1 } else { 0 }
+}
+
+// 1 at each edge in use that joins storage vertices, 0 elsewhere.
+pub(crate) fn inner_flags(net: Net, storage: &[u8; Net::VERTEX_PLACES]) -> [u8; Net::MOST_EDGES]
+    requires { ⌜ Readable net × (now storage ≡ storageFlags net) ⌝ }
+    ensures { λ r. ⌜ r ≡ innerFlags net ⌝ }
+{
+    let mut flags = [0u8; Net::MOST_EDGES];
+    let count = net.edge_count as usize;
+    for i in 0..count {
+        let edge = net.edges[i];
+        flags[i] = both(storage[edge.end1 as usize], storage[edge.end2 as usize]);
+    }
+    flags
+}
+
+// The label of each vertex's component: the walk over the edges that join storage vertices.
+pub fn component_labels(net: Net, storage: &[u8; Net::VERTEX_PLACES]) -> [u8; Net::VERTEX_PLACES]
+    requires { ⌜ Readable net × (now storage ≡ storageFlags net) ⌝ }
+    ensures { λ r. ⌜ r ≡ componentLabels net ⌝ }
+{
+    let first = first_ends(net);
+    let second = second_ends(net);
+    let inner = inner_flags(net, storage);
+    walk::class_labels(&first, &second, &inner, net.edge_count as usize)
+}
+
+// 1 at each key node, 0 elsewhere: a storage vertex that is the symbol of an edge in use. A symbol that is no vertex copies the flag of
+// number 0, which is no vertex either.
+pub fn key_flags(net: Net, storage: &[u8; Net::VERTEX_PLACES]) -> [u8; Net::VERTEX_PLACES]
+    requires { ⌜ Readable net × (now storage ≡ storageFlags net) ⌝ }
+    ensures { λ r. ⌜ r ≡ keyFlags net ⌝ }
+{
+    let mut keys = [0u8; Net::VERTEX_PLACES];
+    let count = net.edge_count as usize;
+    for k in 0..count {
+        let v = symbols::vertex_of(symbols::decoded(net.edges[k].symbol));
+        keys[v as usize] = storage[v as usize];
+    }
+    keys
+}
+
+// How many flags are 1.
+pub(crate) fn count_flags(flags: &[u8]) -> usize
+    ensures { λ r. ⌜ r ≡ countBelow (length (now (flags .entry))) (λ i. eqb (getD (now (flags .entry)) i 0) 1) ⌝ }
+{
+    let mut count: usize = 0;
+    for i in 0..flags.len() {
+        if flags[i] == 1 {
+            count += 1;
+        }
+    }
+    count
+}
+
+// h, the number of key nodes.
+pub fn key_count(net: Net) -> usize
+    requires { ⌜ Readable net ⌝ }
+    ensures { λ r. ⌜ r ≡ keyCount net ⌝ }
+{
+    let storage = storage_flags(net);
+    let keys = key_flags(net, &storage);
+    count_flags(&keys)
+}
