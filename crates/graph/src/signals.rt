@@ -20,7 +20,7 @@ fn input_label(role: u8, label: u16) -> u16
 }
 
 // The label of each input vertex; elsewhere 0, which is a constant's symbol.
-pub(crate) fn input_labels(net: Net) -> [u16; Net::VERTEX_PLACES]
+pub fn input_labels(net: Net) -> [u16; Net::VERTEX_PLACES]
     requires { ⌜ net .«vertex_count» ≤ mostVertices ⌝ }
     ensures { λ r. ⌜ r ≡ inputLabels net ⌝ }
 {
@@ -63,7 +63,7 @@ fn mark_end(flags: &mut [u8; Symbol::BOUND], member: bool, symbol: u16, label: u
 }
 
 // 1 at each signal of y's component, by symbol number.
-pub(crate) fn signal_flags<'a>(
+pub fn signal_flags<'a>(
     net: Net,
     storage: &'a [u8; Net::VERTEX_PLACES],
     labels: &'a [u8; Net::VERTEX_PLACES],

@@ -52,7 +52,7 @@ pub fn condition_of(form: u8, value: u8) -> Condition
 }
 
 // The vertex that a symbol stands for, or 0, which is no vertex.
-pub(crate) fn vertex_of(symbol: Symbol) -> u8
+pub fn vertex_of(symbol: Symbol) -> u8
     ensures { λ r. ⌜ r ≡ vertexOf symbol ⌝ }
 {
     match symbol {

@@ -57,7 +57,8 @@ pub(crate) fn second_ends(net: Net) -> [u8; Net::MOST_EDGES]
     ends
 }
 
-fn both(a: u8, b: u8) -> u8
+// 1 if both flags are 1, else 0.
+pub fn both(a: u8, b: u8) -> u8
     ensures { λ r. ⌜ r ≡ digit (eqb a 1 && eqb b 1) ⌝ }
 {
     if a != 1 {
@@ -107,7 +108,7 @@ pub fn key_flags(net: Net, storage: &[u8; Net::VERTEX_PLACES]) -> [u8; Net::VERT
 }
 
 // How many flags are 1.
-pub(crate) fn count_flags(flags: &[u8]) -> usize
+pub fn count_flags(flags: &[u8]) -> usize
     ensures { λ r. ⌜ r ≡ countBelow (length (now (flags .entry))) (λ i. eqb (getD (now (flags .entry)) i 0) 1) ⌝ }
 {
     let mut count: usize = 0;

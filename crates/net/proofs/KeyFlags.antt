@@ -41,7 +41,7 @@ module _ (N : Net) where
   unfolding isStorage
   no-storage = rw (no-vertex-0 N 1, no-vertex-0 N 2)
 
-  storage-positive : (v : ℕ) → isStorage N v ≡ true → 0 < v
+  pub storage-positive : (v : ℕ) → isStorage N v ≡ true → 0 < v
   storage-positive zero e = absurd (not-both (isStorage N 0) e no-storage)
   storage-positive (suc v) e = omega arith
 

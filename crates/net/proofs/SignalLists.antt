@@ -40,14 +40,17 @@ module _ (N : Net) where
   signal-moves c (on-edge d l v) = on-edge (component-trans c d) l v
   signal-moves c (on-input d l i v) = on-input (component-trans c d) l i v
 
-  -- one list for a whole component
+  -- the same signals for a whole component
+  pub is-signal-component : {y z : ℕ} → SameComponent N y z → (s : ℕ) → isSignal N (components N) y s ≡ isSignal N (components N) z s
+  is-signal-component {y} {z} c s =
+      same-test _ _
+      (λ e. is-signal-iff N z s .1 (signal-moves (component-sym c) (is-signal-iff N y s .0 e)))
+      (λ e. is-signal-iff N y s .1 (signal-moves c (is-signal-iff N z s .0 e)))
+
+  -- and one list of them
   pub signals-component : {y z : ℕ} → SameComponent N y z → signals N y ≡ signals N z
   unfolding signals
-  signals-component {y} {z} c =
-      list-ext symbolBound (isSignal N (components N) y) (isSignal N (components N) z)
-      (λ s. same-test _ _
-      (λ e. is-signal-iff N z s .1 (signal-moves (component-sym c) (is-signal-iff N y s .0 e)))
-      (λ e. is-signal-iff N y s .1 (signal-moves c (is-signal-iff N z s .0 e))))
+  signals-component {y} {z} c = list-ext symbolBound (isSignal N (components N) y) (isSignal N (components N) z) (is-signal-component c)
 
   -- the list rises
   pub signals-rising : (y i j : ℕ) → i < j → j < signalCount N y → getD (signals N y) i 0 < getD (signals N y) j 0

@@ -40,6 +40,33 @@ impl Net {
     pub const MOST_KEY_NODES: usize = 12;
     // Of one component.
     pub const MOST_SIGNALS: usize = 8;
+
+    // The assignments of that many signals: a row of lanes has one entry for each.
+    pub const ASSIGNMENTS: usize = 1 << Net::MOST_SIGNALS;
+
+    // Tables with a row of lanes for each vertex number, for each edge, and for each signal's place.
+    pub const VERTEX_LANES: usize = Net::VERTEX_PLACES * Net::ASSIGNMENTS;
+
+    pub const EDGE_LANES: usize = Net::MOST_EDGES * Net::ASSIGNMENTS;
+
+    pub const COLUMN_LANES: usize = (Net::MOST_SIGNALS + 1) * Net::ASSIGNMENTS;
+
+    // The key states of the most key nodes.
+    pub const KEY_STATES: usize = 1 << Net::MOST_KEY_NODES;
+
+    // Letters and key nodes: whatever has a value of its own in a state.
+    pub const VARIABLES: usize = Net::MOST_LETTERS + Net::MOST_KEY_NODES;
+
+    // For each assignment a row of lanes, and such a block of rows for each key node.
+    pub const STATE_ROWS: usize = Net::ASSIGNMENTS * Net::ASSIGNMENTS;
+
+    pub const KEY_ROWS: usize = Net::MOST_KEY_NODES * Net::STATE_ROWS;
+
+    // For each key node a row with an entry for each key state.
+    pub const KEY_PARTS: usize = Net::MOST_KEY_NODES * Net::KEY_STATES;
+
+    // A table with an entry for each symbol number, in a row for each vertex number.
+    pub const SYMBOL_PLACES: usize = Net::VERTEX_PLACES * Symbol::BOUND;
 }
 
 // A symbol by its number. Letters and vertices are numbered from 1.

@@ -87,8 +87,22 @@ impl Answer {
     pub const MANY_KEY_NODES: u8 = 22;
 
     pub const MANY_SIGNALS: u8 = 23;
+    // The conditions that a verdict tests.
+    pub const BREAKS_C1: u8 = 31;
+
+    pub const BREAKS_C2: u8 = 32;
+
+    pub const BREAKS_C3: u8 = 33;
+    // What a call is handed is not fit: the record, an input state, a key state.
+    pub const BAD_RECORD: u8 = 41;
+
+    pub const BAD_INPUT_STATE: u8 = 42;
+
+    pub const BAD_KEY_STATE: u8 = 43;
     // The sheet has no full line of the number asked for.
     pub const NO_LINE: u8 = 47;
+
+    pub const NO_STORAGE_VERTEX: u8 = 48;
 }
 
 // The place of a row, if its condition holds.

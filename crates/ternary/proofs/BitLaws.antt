@@ -1,12 +1,15 @@
 -- Laws of bits and of the numbers made of bits. Assumes nothing.
 use Prim.Native.Nat.{ℕ, zero, suc, _+_, _*_, _/_, _%_, _^_, _<_}
 use mathlib.Core.Path.{_≡_, refl, sym, ap, _∙_}
-use mathlib.Core.Bool.{Bool, true, false}
+use mathlib.Core.Bool.{Bool, true, false, false≢true, _||_}
 use mathlib.Core.Logic.{_↔_, _⊎_, inl, inr, ⊎-elim}
 use native.Mathlib.Omega.{arith}
 use native.Mathlib.Nat.{div-div-eq-div-mul, pow-succ', pow-zero, div-one}
+use native.Mathlib.Numerals.{add-one}
+use lib.Bits.{bitOr}
 use lib.Dec.{eqb}
 use Rattle.ternary.specs.Bits.{bit, number, has, digit, setOf}
+use Rattle.ternary.specs.Lists.{anyBelow}
 
 -- ---- bits
 
@@ -65,7 +68,7 @@ number-bits h n l = bit-ext h (number h (bit n)) n (number-lt h (bit n) (λ k _.
 
 -- ---- sets
 
-digit-lt : (b : Bool) → digit b < 2
+pub digit-lt : (b : Bool) → digit b < 2
 digit-lt true = omega arith
 digit-lt false = omega arith
 
@@ -78,6 +81,25 @@ pub eqb-digit : (b : Bool) → eqb (digit b) 1 ≡ b
 eqb-digit true = refl
 eqb-digit false = refl
 
+pub digit-iff : (b : Bool) → (digit b ≡ 1) ↔ (b ≡ true)
+digit-iff true = (λ e. refl, λ e. refl)
+digit-iff false = (λ e. absurd (omega arith), λ e. absurd (false≢true e))
+
 pub has-setOf : (h : ℕ) (P : ℕ → Bool) (k : ℕ) → k < h → has (setOf h P) k ≡ P k
 unfolding has setOf
 has-setOf h P k l = rw (bit-number h (λ k. digit (P k)) (λ k l. digit-lt (P k)) k l) (eqb-digit (P k))
+
+-- two flags by `|`
+or-digits : (a b : Bool) → bitOr (digit a) (digit b) ≡ digit (a || b)
+or-digits true true = refl
+or-digits true false = refl
+or-digits false true = refl
+or-digits false false = refl
+
+-- a loop that notes in a flag whether some number has passed the test: one number more, and what the flag tells
+pub any-noted : {found hit : ℕ} (p : ℕ → Bool) (n : ℕ) → found ≡ digit (anyBelow n p) → hit ≡ digit (p n) → bitOr found hit ≡ digit (anyBelow (n + 1) p)
+unfolding anyBelow
+any-noted p n e f = rw (e, f, add-one) (or-digits (anyBelow n p) (p n))
+
+pub any-told : {found : ℕ} (p : ℕ → Bool) (n : ℕ) → found ≡ digit (anyBelow n p) → eqb found 1 ≡ anyBelow n p
+any-told p n e = rw (e, eqb-digit) refl

@@ -281,7 +281,7 @@ module _ (p : ℕ → Bool) where
   unfolding countBelow
   count-step k = cond-by (λ (c : ℕ). countBelow k p ≤ c) (p k) (λ _. omega arith) (λ _. omega arith)
 
-  count-mono : (m n : ℕ) → m ≤ n → countBelow m p ≤ countBelow n p
+  pub count-mono : (m n : ℕ) → m ≤ n → countBelow m p ≤ countBelow n p
   count-mono m n l = le-ind (λ (k : ℕ). countBelow m p ≤ countBelow k p) (omega arith) (λ k i c. omega (arith, c, count-step k)) n l
 
   pub list-rising : (n i j : ℕ) → i < j → j < length (listBelow n p) → getD (listBelow n p) i 0 < getD (listBelow n p) j 0
@@ -292,14 +292,58 @@ module _ (p : ℕ → Bool) where
       (by-test (ltb (u .0) (v .0)) (ltb-true (u .0) (v .0))
       (λ e. absurd (omega (arith, count-mono (v .0) (u .0) (ltb-false (u .0) (v .0) e), u .1 .place, v .1 .place))))
 
--- counts and lists by tests that agree
+-- the same by tests that agree
+pub any-ext : (n : ℕ) (p q : ℕ → Bool) → ((k : ℕ) → k < n → p k ≡ q k) → anyBelow n p ≡ anyBelow n q
+unfolding anyBelow
+any-ext zero p q e = refl
+any-ext (suc n) p q e = rw (e n (omega arith), any-ext n p q (λ k l. e k (omega arith)))
+
+pub all-ext : (n : ℕ) (p q : ℕ → Bool) → ((k : ℕ) → k < n → p k ≡ q k) → allBelow n p ≡ allBelow n q
+unfolding allBelow
+all-ext zero p q e = refl
+all-ext (suc n) p q e = rw (e n (omega arith), all-ext n p q (λ k l. e k (omega arith)))
+
 pub count-ext : (n : ℕ) (p q : ℕ → Bool) → ((k : ℕ) → k < n → p k ≡ q k) → countBelow n p ≡ countBelow n q
 unfolding countBelow
 count-ext zero p q e = refl
 count-ext (suc n) p q e = rw (e n (omega arith), count-ext n p q (λ k l. e k (omega arith)))
 
+-- a stronger test counts no more numbers, and fewer if it misses one
+pub count-weaker : (n : ℕ) (p q : ℕ → Bool) → ((k : ℕ) → k < n → q k ≡ true → p k ≡ true) → countBelow n q ≤ countBelow n p
+unfolding countBelow
+count-weaker zero p q h = omega arith
+count-weaker (suc n) p q h = go (count-weaker n p q (λ k l. h k (omega arith))) (test (q n)) (test (p n))
+  where
+    go : countBelow n q ≤ countBelow n p → (q n ≡ true) ⊎ (q n ≡ false) → (p n ≡ true) ⊎ (p n ≡ false) → countBelow (suc n) q ≤ countBelow (suc n) p
+    go ih (inl e) (inl f) = rw (e, f) (omega arith)
+    go ih (inl e) (inr f) = absurd (not-both (p n) (h n (omega arith) e) f)
+    go ih (inr e) (inl f) = rw (e, f) (omega arith)
+    go ih (inr e) (inr f) = rw (e, f) (omega arith)
+
+pub count-fewer : (n : ℕ) (p q : ℕ → Bool) → ((k : ℕ) → k < n → q k ≡ true → p k ≡ true) → (j : ℕ) → j < n → p j ≡ true → q j ≡ false → countBelow n q < countBelow n p
+unfolding countBelow
+count-fewer zero p q h j l e f = absurd (not-suc-le-zero l)
+count-fewer (suc n) p q h j l e f = go (count-fewer n p q (λ k i. h k (omega arith)) j) (below-cases l)
+  where
+    less : countBelow n q < countBelow n p → (q n ≡ true) ⊎ (q n ≡ false) → (p n ≡ true) ⊎ (p n ≡ false) → countBelow (suc n) q < countBelow (suc n) p
+    less ih (inl a) (inl b) = rw (a, b) (omega arith)
+    less ih (inl a) (inr b) = absurd (not-both (p n) (h n (omega arith) a) b)
+    less ih (inr a) (inl b) = rw (a, b) (omega arith)
+    less ih (inr a) (inr b) = rw (a, b) (omega arith)
+
+    go : (j < n → p j ≡ true → q j ≡ false → countBelow n q < countBelow n p) → (j < n) ⊎ (j ≡ n) → countBelow (suc n) q < countBelow (suc n) p
+    go ih (inl i) = less (ih i e f) (test (q n)) (test (p n))
+    go ih (inr i) =
+        let a : p n ≡ true = rw i at e in
+        let b : q n ≡ false = rw i at f in
+        let c : countBelow n q ≤ countBelow n p = count-weaker n p q (λ k m. h k (omega arith)) in
+        rw (a, b) (omega arith)
+
 pub list-ext : (n : ℕ) (p q : ℕ → Bool) → ((k : ℕ) → p k ≡ q k) → listBelow n p ≡ listBelow n q
 list-ext n p q e = ap (listBelow n) (λ i k. e k i)
+
+pub least-ext : (n : ℕ) (p q : ℕ → Bool) → ((k : ℕ) → p k ≡ q k) → leastBelow n p ≡ leastBelow n q
+least-ext n p q e = ap (leastBelow n) (λ i k. e k i)
 
 -- ---- the least number with a property that a test decides
 
