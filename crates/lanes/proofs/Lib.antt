@@ -1,0 +1,2 @@
+pub mod GridLaws
+pub mod LaneLaws
