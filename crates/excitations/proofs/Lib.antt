@@ -1,0 +1,13 @@
+pub mod SameState
+pub mod Edges
+pub mod Carrying
+pub mod Sweeps
+pub mod Marks
+pub mod Turns
+pub mod DrivenLaws
+pub mod FirstRows
+pub mod OwnerLaws
+pub mod PlaceLaws
+pub mod StateValues
+pub mod UsableLaws
+pub mod LaneTables

@@ -1,0 +1,4 @@
+pub mod Fit
+pub mod Conditions
+pub mod Connections
+pub mod Excitations
