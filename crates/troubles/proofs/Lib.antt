@@ -1,0 +1,13 @@
+pub mod MarkLaws
+pub mod ValueLaws
+pub mod RowLaws
+pub mod KeyReads
+pub mod EdgeReads
+pub mod FightLaws
+pub mod EdgeLaws
+pub mod RowReads
+pub mod TwoLaws
+pub mod VertexLaws
+pub mod LowestLaws
+pub mod FirstLaws
+pub mod VerdictTests

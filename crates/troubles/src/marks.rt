@@ -1,0 +1,37 @@
+//! Tables of marks.
+use net::Net;
+ghost use mathlib.Core.Path.{_≡_};
+ghost use Prim.Native.Nat.{suc, _*_, _≤_};
+ghost use lib.Dec.{eqb};
+ghost use lib.ListN.{length};
+ghost use Rattle.ternary.specs.Bits.{digit};
+ghost use Rattle.lanes.specs.Lanes.{assignments};
+ghost use Rattle.troubles.specs.Marks.{marked, rowMarked};
+
+// 1 for an entry of 1, else 0.
+fn is_one(entry: u8) -> u8
+    ensures { λ r. ⌜ r ≡ digit (eqb entry 1) ⌝ }
+{
+    if entry == 1 { 1 } else { 0 }
+}
+
+// Is some entry 1? Every entry is looked at: the loop has no branch.
+pub fn is_marked(table: &[u8]) -> bool
+    ensures { λ r. ⌜ r ≡ marked (now (table .entry)) ⌝ }
+{
+    let mut found: u8 = 0;
+    for i in 0..table.len() {
+        found = found | is_one(table[i]);
+    }
+    found == 1
+}
+
+// Is some entry of row y 1?
+pub(crate) fn row_is_marked(table: &[u8], y: usize) -> bool
+    requires { ⌜ suc y * assignments ≤ length (now table) ⌝ }
+    ensures { λ r. ⌜ r ≡ rowMarked (now (table .entry)) y ⌝ }
+{
+    let from = y * Net::ASSIGNMENTS;
+    let to = from + Net::ASSIGNMENTS;
+    is_marked(&table[from..to])
+}
