@@ -1,6 +1,6 @@
 -- Computed examples: the numbers of both calls, in their order. They open the definitions and use no law.
 use mathlib.Core.Path.{_≡_, refl}
-use mathlib.Core.List.{List, [], _∷_, map}
+use mathlib.Core.List.{[], _∷_, map}
 use Rattle.net.specs.declared.Net.{Net}
 use Rattle.net.proofs.Concrete.{vertex, edge, net}
 use Rattle.sheet.specs.Rows.{answer, byRows}

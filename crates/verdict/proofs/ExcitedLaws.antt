@@ -1,10 +1,11 @@
 -- The call for one vertex: a value where no row's condition holds, else the number of the first that does.
-use Prim.Native.Nat.{ℕ}
-use mathlib.Core.Path.{_≡_, ap, subst, _∙_}
+use Prim.Native.Nat.{ℕ, _≤_}
+use native.Mathlib.Omega.{arith}
+use mathlib.Core.Path.{_≡_, refl, sym, ap, subst, _∙_}
 use mathlib.Core.List.{List}
 use mathlib.Core.Bool.{true, true≢false}
 use mathlib.Core.Logic.{_↔_}
-use mathlib.Core.Option.{Option, none, some}
+use mathlib.Core.Option.{Option, none}
 use borrow.Author.Tests.{lt-ltb}
 use Rattle.net.specs.declared.Net.{Net}
 use Rattle.net.specs.Graph.{isStorage}
@@ -13,9 +14,9 @@ use Rattle.net.specs.Network.{Clean}
 use Rattle.sheet.specs.declared.Answer.{Answer}
 use Rattle.sheet.specs.Rows.{answer, Row, firstRow, First, NoRow}
 use Rattle.sheet.specs.Valid.{valid}
-use Rattle.sheet.proofs.RowLaws.{RowsAnswer, nothing, found, rows-answer, first-none, first-some, by-rows-none, by-rows-some}
+use Rattle.sheet.proofs.RowLaws.{RowsAnswer, nothing, found, rows-answer, positive, positive-first, first-none, first-some, by-rows-none, by-rows-some}
 use Rattle.verdict.specs.declared.Excited.the-variants.{Value, Refused}
-use Rattle.verdict.specs.Excited.{excitationRows, excitedOf}
+use Rattle.verdict.specs.Excited.{excitationRows, excitedOf, excitedNumber}
 
 module _ (N : Net) (a q y : ℕ) where
   abbrev rows : List Row
@@ -53,3 +54,21 @@ module _ (N : Net) (a q y : ℕ) where
     where
       rows-pass : valid N ≡ true → Clean N a q → isStorage N y ≡ true → firstRow rows ≡ none
       rows-pass v c s = rw (v, lt-ltb a _ (c .input), lt-ltb q _ (c .key), s)
+
+  -- number 0 exactly if no row's condition holds, and number n exactly if row n is the first whose condition does
+  pub excited-zero : (excitedNumber (excitedOf N a q y) ≡ 0) ↔ NoRow rows
+  unfolding positive excitationRows
+  excited-zero = (λ e. there e (rows-answer rows), λ h. ap excitedNumber (no-row h))
+    where
+      there : excitedNumber (excitedOf N a q y) ≡ 0 → {o : Option Answer} → RowsAnswer rows o → NoRow rows
+      there e (nothing h) = h
+      there e (found {n = n} {p = p} h) = absurd (omega (arith, positive-first refl h, ap excitedNumber (a-row n p h)))
+
+  pub excited-number : (n : ℕ) → 1 ≤ n → (excitedNumber (excitedOf N a q y) ≡ n) ↔ ((p : ℕ) × First rows n p)
+  excited-number n l = (λ e. there e (rows-answer rows), λ (p, h). ap excitedNumber (a-row n p h))
+    where
+      there : excitedNumber (excitedOf N a q y) ≡ n → {o : Option Answer} → RowsAnswer rows o → (p : ℕ) × First rows n p
+      there e (nothing h) = absurd (omega (arith, ap excitedNumber (no-row h)))
+      there e (found {n = m} {p = p} h) =
+          let same : m ≡ n = sym (ap excitedNumber (a-row m p h)) ∙ e in
+          (p, subst (λ (k : ℕ). First rows k p) same h)

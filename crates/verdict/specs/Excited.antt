@@ -23,7 +23,15 @@ excitationRows N a q y =
 unfoldable pub excitedOf : Net → ℕ → ℕ → ℕ → Excited
 excitedOf N a q y = byRows (excitationRows N a q y) (Value (excitation N a q y)) (λ r. Refused (r .number))
 
--- the number of an answer; its place is always 0
+-- the number, the place and the value of an answer; under a number the value is 0
 abbrev pub excitedNumber : Excited → ℕ
 excitedNumber (Value v) = 0
 excitedNumber (Refused n) = n
+
+abbrev pub excitedPlace : Excited → ℕ
+excitedPlace (Value v) = 0
+excitedPlace (Refused n) = 0
+
+abbrev pub excitedValue : Excited → ℕ
+excitedValue (Value v) = v
+excitedValue (Refused n) = 0
