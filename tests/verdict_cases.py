@@ -1,0 +1,485 @@
+#!/usr/bin/env python3
+"""Cases for the verdict and for the excitation of one vertex, with the answers that document 01 and the report ask for.
+
+Each case has a note: the report's row or sentence, or document 01's, that its answer follows from. Running this file writes the input and the
+expected output of the test program `verdict_cases`. The expected answers are worked out here by hand, never taken from a run or from a model.
+
+The kinds of cases, and what the program prints for each before the note:
+  N  a sheet, kept for the cases that follow it: the reader's number and place;
+  V  the verdict: number and place;
+  E  the excitation of one vertex: 0 and the value, or a number and 0;
+  S  a state: the excitation of every vertex in order, one character each, a hyphen for an input vertex.
+
+A case in the input: its kind (one byte), the length of its note, the input state, the key state, the vertex, the length of its sheet, the note,
+the sheet. The lengths have four columns; the other three numbers have three fields of four columns each, four decimal digits to a field.
+Where the report's drawing is lost, the sheet is made so that the report's sentences on it hold; the notes say which sentence.
+"""
+import pathlib
+
+CASES = []
+ZERO, ONE, STORAGE, OUTPUT = (0, 0), (0, 1), (1, 0), (2, 0)
+N, P, N_PRIMED, P_PRIMED = 0, 1, 2, 3
+
+
+def field(n):
+    return b"%4d" % n
+
+
+def large(n):
+    return field(n // 10 ** 8) + field(n // 10 ** 4 % 10 ** 4) + field(n % 10 ** 4)
+
+
+def line(*numbers):
+    return b"".join(field(n) for n in numbers) + b"\n"
+
+
+def letter(j):
+    return 10 + j
+
+
+def vertex(v):
+    return 100 + v
+
+
+def carries(j):
+    """An input vertex with a letter."""
+    return (0, letter(j))
+
+
+def sheet(letters, vertices, edges):
+    """Vertices are given by role and label, edges by their ends, form and symbol."""
+    return (line(1, len(vertices), len(edges), letters, 1)
+            + b"".join(line(2, v + 1, role, label, 0) for v, (role, label) in enumerate(vertices))
+            + b"".join(line(3, *edge) for edge in edges))
+
+
+def inverter(y, symbol):
+    """y is pulled to 0 by vertex 1 where the symbol is 1, and to 1 by vertex 2 where it is 0."""
+    return [(y, 1, N, symbol), (2, y, P, symbol)]
+
+
+def pass_on(x, y, symbol):
+    """A transmission gate, closed where the symbol is 1."""
+    return [(x, y, N, symbol), (x, y, P_PRIMED, symbol)]
+
+
+def pass_off(x, y, symbol):
+    """A transmission gate, closed where the symbol is 0."""
+    return [(x, y, N_PRIMED, symbol), (x, y, P, symbol)]
+
+
+def nand(y, inner, one, two):
+    """y is the NAND of two symbols; the inner vertex lies between the two n edges."""
+    return [(2, y, P, one), (2, y, P, two), (y, inner, N, one), (inner, 1, N, two)]
+
+
+def case(kind, answer, note, numbers=(0, 0, 0), data=b""):
+    CASES.append((kind, numbers, data, answer, note))
+
+
+def net(note, data, number=0, place=0):
+    case(b"N", field(number) + field(place), note, data=data)
+
+
+def verdict(number, place, note):
+    case(b"V", field(number) + field(place), note)
+
+
+def excitation(number, value, note, asked_input, asked_key, asked_vertex):
+    case(b"E", field(number) + field(value), note, (asked_input, asked_key, asked_vertex))
+
+
+def state(characters, note, asked_input, asked_key=0):
+    case(b"S", characters.encode(), note, (asked_input, asked_key, 0))
+
+
+# The report's networks. Vertex 1 carries 0 and vertex 2 carries 1 unless said otherwise.
+
+GATE = [(2, 4, P, letter(2)), (4, 3, P, letter(1)), (3, 1, N, letter(1)), (3, 1, N, letter(2))]
+
+net("NOR gate, figure 2.2: letters a b, output z 3, inner vertex y 4", sheet(2, [ZERO, ONE, OUTPUT, STORAGE], GATE))
+state("--11", "a 0 b 0: z = (a + b)' is 1; y has a p-connection to 1", 0)
+state("--01", "a 1 b 0: z is 0; y is still joined to 1 by the upper p edge", 1)
+state("--02", "a 0 b 1: z is 0; y has no connection to 1 and a mixed one to 0, so 2", 2)
+state("--03", "a 1 b 1: z is 0; y is connected to nothing, it floats", 3)
+excitation(0, 2, "the bench example of document 01: the inner vertex at a 0 b 1", 2, 0, 4)
+excitation(0, 3, "the bench example of document 01: the inner vertex at a 1 b 1", 3, 0, 4)
+verdict(0, 0, "z is always connected to 0 or to 1 but not to both, and y is neither key node nor output")
+net("the NOR gate with y as an output too", sheet(2, [ZERO, ONE, OUTPUT, OUTPUT], GATE))
+verdict(33, 4, "y is 2 at a 0 b 1; with no key node every state is stable")
+net("figure 7.1(a): the NOR gate with its n edge under a always closed",
+    sheet(2, [ZERO, ONE, OUTPUT, STORAGE], GATE[:2] + [(3, 1, N, 1)] + GATE[3:]))
+excitation(0, 2, "section 7: for a = b = 0 the excitation of z is 2", 0, 0, 3)
+verdict(32, 0, "at a = b = 0 z is joined to 1 and to 0: a fight, and 32 comes before the 33 of z")
+net("figure 7.1(b): the NOR gate with its p edge under a always open",
+    sheet(2, [ZERO, ONE, OUTPUT, STORAGE], GATE[:1] + [(4, 3, P, 1)] + GATE[2:]))
+excitation(0, 3, "section 7: for a = b = 0 z floats", 0, 0, 3)
+state("--01", "a 0 b 0 became 3; a 1 b 0 is as before", 1)
+verdict(0, 0, "C3 allows an output at 3")
+
+LATCH = [(2, 5, P, letter(1)), (5, 3, P, vertex(4)), (3, 1, N, letter(1)), (3, 1, N, vertex(4)),
+         (2, 6, P, letter(2)), (6, 4, P, vertex(3)), (4, 1, N, letter(2)), (4, 1, N, vertex(3))]
+STORED = [ZERO, ONE, OUTPUT, OUTPUT, STORAGE, STORAGE]
+
+net("NOR latch, figure 3.2: letters S R, key nodes and outputs Q bar 3 and Q 4, inner vertices y1 5 and y2 6", sheet(2, STORED, LATCH))
+state("--0111", "example 3.1, row 1: S 0 R 0, Q bar 0 Q 1, stable", 0, 2)
+state("--1011", "example 3.1, row 2: S 0 R 0, Q bar 1 Q 0, stable", 0, 1)
+state("--1013", "example 3.1, row 3: S 0 R 1, Q bar 1 Q 0, stable, y2 floats", 2, 1)
+state("--0131", "example 3.1, row 4: S 1 R 0, Q bar 0 Q 1, stable, y1 floats", 1, 2)
+state("--0022", "example 3.1, row 5: S 1 R 1, Q bar 0 Q 0, stable, y1 and y2 have a mixed connection to 0 alone", 3, 0)
+state("--1111", "no row: S 0 R 0 from 00 both key nodes go to 1, not stable", 0, 0)
+state("--0011", "no row: S 0 R 0 from 11 both key nodes go to 0, not stable; with 00 the oscillation of example 5.1", 0, 3)
+state("--0121", "no row: S 1 R 0 from 00 Q goes to 1, not stable", 1, 0)
+state("--0021", "no row: S 1 R 0 from 10 Q bar goes to 0, not stable", 1, 1)
+state("--0031", "no row: S 1 R 0 from 11 both go to 0, not stable", 1, 3)
+state("--1012", "no row: S 0 R 1 from 00 Q bar goes to 1, not stable", 2, 0)
+state("--0012", "no row: S 0 R 1 from 01 Q goes to 0, not stable", 2, 2)
+state("--0013", "no row: S 0 R 1 from 11 both go to 0, not stable", 2, 3)
+state("--0023", "no row: S 1 R 1 from 10 Q bar goes to 0, not stable", 3, 1)
+state("--0032", "no row: S 1 R 1 from 01 Q goes to 0, not stable", 3, 2)
+state("--0033", "no row: S 1 R 1 from 11 both go to 0, not stable; example 5.1: the key nodes are 00 from anywhere", 3, 3)
+verdict(0, 0, "after example 3.1: the graph of figure 3.2 is well formed; y1 and y2 may be 2, they are no outputs")
+net("the NOR latch with y2 as an output", sheet(2, STORED[:5] + [OUTPUT], LATCH))
+verdict(33, 6, "row 5 of example 3.1 is stable and has y2 at 2")
+net("the NOR latch with y1 and y2 as outputs", sheet(2, STORED[:4] + [OUTPUT, OUTPUT], LATCH))
+verdict(33, 5, "row 5 has both at 2: the lower one is named")
+net("the NOR latch, and vertex 7 joined to 0 under Q and to 1 under Q bar", sheet(
+    2, STORED + [STORAGE], LATCH + [(1, 7, N, vertex(4)), (7, 2, N, vertex(3))]))
+state("--00112", "S 0 R 0, both at 1: vertex 7 is joined to 0 and to 1, a fight; not stable", 0, 3)
+verdict(0, 0, "C2 is about stable states, and no row of example 3.1 has Q bar 1 and Q 1")
+net("the NOR latch, and vertex 7 joined to 0 under Q hat and to 1 under Q bar hat", sheet(
+    2, STORED + [STORAGE], LATCH + [(1, 7, P, vertex(4)), (7, 2, P, vertex(3))]))
+state("--00222", "row 5, stable: vertex 7 is joined to 0 and to 1", 3, 0)
+verdict(32, 0, "row 5 has Q bar 0 and Q 0: a fight in a stable state")
+net("the NOR latch, and an edge under Q from the 0-vertex to the 1-vertex", sheet(2, STORED, LATCH + [(1, 2, N, vertex(4))]))
+verdict(32, 0, "row 1 has Q 1: one edge can be a fight")
+
+net("multiplexer, figure 2.4: letters a b c, output z 3; 4 carries b and 5 carries c", sheet(
+    3, [ZERO, ONE, OUTPUT, carries(2), carries(3)], pass_on(4, 3, letter(1)) + pass_off(5, 3, letter(1))))
+for number, value, letters in ((0, 0, "000"), (1, 0, "100"), (2, 0, "010"), (3, 1, "110"), (4, 1, "001"), (5, 0, "101"), (6, 1, "011"), (7, 1, "111")):
+    state("--%d--" % value, "z = ab + a'c at abc %s" % letters, number)
+verdict(0, 0, "z is always b or c, by a transmission gate that carries both values firmly")
+
+net("oscillator, figure 3.4(a): key node and output 3", sheet(0, [ZERO, ONE, OUTPUT], inverter(3, vertex(3))))
+state("--1", "key 0: the key node goes to 1, not stable", 0, 0)
+state("--0", "key 1: the key node goes to 0, not stable", 0, 1)
+verdict(0, 0, "section 3: well formed without any stable state; document 01: such a net meets C2 and C3")
+excitation(42, 0, "row 42: without letters the one input state is 0", 1, 0, 3)
+
+net("combinational network, figure 3.4(b): letters a b c, outputs z1 3 and z2 4, inner vertex 5", sheet(
+    3, [ZERO, ONE, OUTPUT, OUTPUT, STORAGE],
+    [(2, 3, P, letter(1)), (2, 3, P, letter(2)), (3, 5, N, letter(2)), (2, 4, P, letter(1)), (2, 4, P, letter(3)), (4, 5, N, letter(3)),
+     (5, 1, N, letter(1))]))
+state("--113", "z1 = (ab)', z2 = (ac)' at abc 000: 11; the inner vertex floats", 0)
+state("--110", "abc 100: 11; the inner vertex is pulled to 0", 1)
+state("--112", "abc 010: 11; the inner vertex has an n edge and then a p edge to 1, mixed", 2)
+state("--010", "abc 110: 01", 3)
+state("--112", "abc 001: 11; mixed", 4)
+state("--100", "abc 101: 10", 5)
+state("--112", "abc 011: 11; mixed twice", 6)
+state("--000", "abc 111: 00", 7)
+verdict(0, 0, "section 3: the graph of figure 3.4(b) is well formed")
+excitation(43, 0, "row 43: without key nodes the one key state is 0", 0, 1, 3)
+
+net("figure 3.4(c): letters a b c, y1 3, y2 4, output 5; 6 carries b and 7 carries c", sheet(
+    3, [ZERO, ONE, STORAGE, STORAGE, OUTPUT, carries(2), carries(3)],
+    inverter(3, letter(1)) + [(6, 4, N, vertex(3)), (6, 4, P, letter(1)), (7, 4, N, letter(1)), (7, 4, P, vertex(3))] + inverter(5, vertex(4))))
+state("--121--", "a b c y1 y2 all 0: the excitation of y2 is 2, since both its connections to 0 are p-connections, not stable", 0, 0)
+state("--101--", "once y1 has followed a, y2 has an n-connection to 0: stable", 0, 1)
+verdict(31, 4, "section 3: not well formed, key node y2 violates C1; y1 is a' and clean")
+
+net("selector, figure 4.1, the T-graph of figure 3.4(c): letters a b c, y2 3, output 4; 5 carries b and 6 carries c", sheet(
+    3, [ZERO, ONE, STORAGE, OUTPUT, carries(2), carries(3)],
+    pass_off(5, 3, letter(1)) + pass_on(6, 3, letter(1)) + inverter(4, vertex(3))))
+for number, value, letters in ((0, 0, "000"), (1, 0, "100"), (2, 1, "010"), (3, 0, "110"), (4, 0, "001"), (5, 1, "101"), (6, 1, "011"), (7, 1, "111")):
+    state("--%d%d--" % (value, 1 - value), "y2 is excited to b if a = 0, to c if a = 1: abc %s, y2 at that value, stable" % letters, number, value)
+state("--11--", "abc 010 from y2 0: not stable", 2, 0)
+state("--00--", "abc 000 from y2 1: not stable", 0, 1)
+verdict(0, 0, "example 4.1: well formed")
+
+net("D flip-flop, figure 4.2: letters c D, y 3, Q bar 4, Q 5; 6 carries D", sheet(
+    2, [ZERO, ONE, STORAGE, OUTPUT, OUTPUT, carries(2)],
+    inverter(4, vertex(3)) + inverter(5, vertex(4)) + pass_on(6, 3, letter(1)) + pass_off(5, 3, letter(1))))
+state("--111-", "c 0 D 0, y 0 Q bar 0: y goes to (Q bar)', Q bar to y', not stable", 0, 0)
+state("--101-", "c 0 D 0, y 1 Q bar 0: kept, stable", 0, 1)
+state("--010-", "c 0 D 0, y 0 Q bar 1: kept, stable", 0, 2)
+state("--000-", "c 0 D 0, y 1 Q bar 1: both go to 0, not stable", 0, 3)
+state("--101-", "c 0 D 1, y 1 Q bar 0: D does not matter at c 0, stable", 2, 1)
+state("--010-", "c 0 D 1, y 0 Q bar 1: D does not matter at c 0, stable", 2, 2)
+state("--011-", "c 1 D 0, y 0 Q bar 0: y to D, Q bar to y', not stable", 1, 0)
+state("--001-", "c 1 D 0, y 1 Q bar 0: y to D, not stable", 1, 1)
+state("--010-", "c 1 D 0, y 0 Q bar 1: stable", 1, 2)
+state("--000-", "c 1 D 0, y 1 Q bar 1: both go to 0, not stable", 1, 3)
+state("--111-", "c 1 D 1, y 0 Q bar 0: both go to 1, not stable", 3, 0)
+state("--101-", "c 1 D 1, y 1 Q bar 0: stable", 3, 1)
+state("--110-", "c 1 D 1, y 0 Q bar 1: y to D, not stable", 3, 2)
+state("--100-", "c 1 D 1, y 1 Q bar 1: Q bar to y', not stable", 3, 3)
+verdict(0, 0, "example 4.2: evidently well formed")
+
+net("tally network, figure 4.3: letters a b, inner vertices 3 and 4, outputs z0 5, z1 6, z2 7", sheet(
+    2, [ZERO, ONE, STORAGE, STORAGE, OUTPUT, OUTPUT, OUTPUT],
+    pass_off(2, 3, letter(1)) + pass_on(1, 3, letter(1)) + pass_off(1, 4, letter(1)) + pass_on(2, 4, letter(1))
+    + pass_off(3, 5, letter(2)) + pass_on(1, 5, letter(2)) + pass_off(4, 6, letter(2)) + pass_on(3, 6, letter(2))
+    + pass_off(1, 7, letter(2)) + pass_on(4, 7, letter(2))))
+state("--10100", "example 4.3: a 0 b 0, none is 1, z0", 0)
+state("--01010", "example 4.3: a 1 b 0, one is 1, z1", 1)
+state("--10010", "example 4.3: a 0 b 1, one is 1, z1", 2)
+state("--01001", "example 4.3: a 1 b 1, two are 1, z2", 3)
+verdict(0, 0, "example 4.3: well formed")
+
+net("figure 4.4: letter a, y1 3, y2 4, y3 5, y4 6", sheet(
+    1, [ZERO, ONE, STORAGE, STORAGE, STORAGE, STORAGE],
+    inverter(3, letter(1)) + inverter(4, vertex(3)) + [(5, 1, N, letter(1)), (2, 5, P, vertex(4))] + inverter(6, vertex(5))))
+state("--0020", "example 4.4: a 1, y1 y2 y3 101, the excitation of y3 is 2, not stable", 1, 5)
+state("--0101", "example 4.4: the state at which a 1 ends, y1 y2 y3 y4 0101, stable", 1, 2)
+state("--1131", "a 0, y1 y2 y3 010: both edges of y3 are open, not stable", 0, 2)
+verdict(31, 5, "example 4.4: rejected for a temporary fight, at y3")
+
+net("three NANDs, figure 6.2: letters a b, key nodes y1 3, y2 4, y3 5, inner vertices 6 7 8", sheet(
+    2, [ZERO, ONE, OUTPUT, OUTPUT, OUTPUT, STORAGE, STORAGE, STORAGE],
+    nand(3, 6, letter(1), vertex(4)) + nand(4, 7, vertex(3), vertex(5)) + nand(5, 8, vertex(4), letter(2))))
+state("--010030", "section 6: ab 11 with 010 is stable", 3, 2)
+state("--011002", "section 6: ab 10 with 011 is stable", 1, 6)
+state("--111032", "section 6: ab 00 from 010, all go to 1, not stable", 0, 2)
+state("--101303", "section 6: ab 00 ends in 101, stable", 0, 5)
+state("--110000", "section 6: ab 01 from 011, y1 and y3 are racing, not stable", 2, 6)
+state("--101300", "section 6: ab 01 with 101, one of two stable key states", 2, 5)
+state("--110020", "section 6: ab 01 with 110, the other one", 2, 3)
+state("--111320", "section 6: ab 01 with 100, half of the oscillation, not stable", 2, 1)
+state("--100000", "section 6: ab 01 with 111, the other half, not stable", 2, 7)
+verdict(0, 0, "each gate is of the complementary design of figure 3.1, so proposition 3.3 holds")
+
+net("pessimism, figure 6.6: letters a b, y1 = (ab)' 3, y2 = (y1 y3)' 4, y3 = y2' 5, inner vertices 6 7", sheet(
+    2, [ZERO, ONE, OUTPUT, OUTPUT, OUTPUT, STORAGE, STORAGE],
+    nand(3, 6, letter(1), letter(2)) + nand(4, 7, vertex(3), vertex(5)) + inverter(5, vertex(4))))
+state("--10100", "section 6: a 0 b 1 with 101 is stable", 2, 5)
+state("--10120", "section 6: a 1 b 0 with 101 is stable too", 1, 5)
+state("--00100", "a 1 b 1 on the way pulls y1 to 0, the hazard that the ternary model sees, not stable", 3, 5)
+verdict(0, 0, "gates of the complementary design: proposition 3.3")
+
+# The counterexample to the converse half of proposition 3.2.
+
+net("key node 1 with a p edge always closed to the 1-vertex 2, and a p edge under itself to the 0-vertex 3",
+    sheet(0, [STORAGE, ONE, ZERO], [(1, 2, P, 0), (1, 3, P, vertex(1))]))
+state("2--", "key 0: joined to 1 and, weakly, to 0: 2, though it has a p-path to 1 and no n-path to 0, not stable", 0, 0)
+state("1--", "key 1: a p-connection to 1 alone, stable", 0, 1)
+verdict(31, 1, "f0 is the complement of f1 here, yet C1 is broken: n-paths and p-paths alone do not decide it")
+
+# Document 01: the worked net, the forms, the four values.
+
+WORKED = sheet(1, [ZERO, ONE, OUTPUT, STORAGE], nand(3, 4, letter(1), vertex(3)))
+
+net("document 01's net of the program `settle`: letter a, key node 3 = (a y)', inner vertex 4", WORKED)
+state("--10", "a 0 with 1: stable, job 2 starts there", 0, 1)
+state("--13", "a 0 with 0: the inner vertex floats, not stable", 0, 0)
+state("--00", "a 1 with 1: not stable, job 3 gets 44", 1, 1)
+state("--12", "a 1 with 0: not stable; an n edge and a p edge to 1 are a mixed connection", 1, 0)
+verdict(0, 0, "the program prints 0 and place 0 for it")
+
+net("the four forms under letter a: 3 by form 1 to 1, 4 by form 0 to 0, 5 by forms 2 and 1 to 0, 6 by forms 0 and 3 to 1", sheet(
+    1, [ZERO, ONE, OUTPUT, OUTPUT, OUTPUT, OUTPUT],
+    [(2, 3, P, letter(1)), (4, 1, N, letter(1))] + pass_off(1, 5, letter(1)) + pass_on(2, 6, letter(1))))
+state("--1303", "a 0: forms 1 and 2 are closed, form 2 is of type n", 0)
+state("--3031", "a 1: forms 0 and 3 are closed, form 3 is of type p", 1)
+verdict(0, 0, "an output is 0, 1 or 3")
+
+VALUES = [(3, 1, N, 1), (4, 1, P, 0), (5, 2, N, 1), (6, 2, P, 0), (7, 1, N, 1), (7, 1, P, 0), (8, 2, N, 1), (8, 2, P, 0), (9, 1, N, 1), (9, 2, P, 0),
+          (10, 1, P, 0), (10, 2, N, 1), (11, 12, N, 1), (12, 2, P, 0), (13, 14, N, 1), (15, 1, N, 0), (15, 2, P, 1),
+          (16, 17, N, 1), (16, 17, P, 0), (17, 2, P, 0), (18, 19, P, 0), (19, 1, N, 1)]
+
+net("constant edges to the 0-vertex and to the 1-vertex", sheet(0, [ZERO, ONE] + [STORAGE] * 17, VALUES))
+excitation(0, 0, "n to 0: 0", 0, 0, 3)
+excitation(0, 2, "p to 0: a connection, but no firm one", 0, 0, 4)
+excitation(0, 2, "n to 1: a path of n edges is no firm 1", 0, 0, 5)
+excitation(0, 1, "p to 1: 1", 0, 0, 6)
+excitation(0, 0, "n and p to 0: one n-connection is enough", 0, 0, 7)
+excitation(0, 1, "n and p to 1: one p-connection is enough", 0, 0, 8)
+excitation(0, 2, "n to 0 and p to 1: connections to both", 0, 0, 9)
+excitation(0, 2, "p to 0 and n to 1: connections to both, none firm", 0, 0, 10)
+excitation(0, 2, "n and then p to 1: mixed", 0, 0, 11)
+excitation(0, 3, "joined only to a storage vertex that is joined to nothing", 0, 0, 13)
+excitation(0, 3, "a form 0 edge under 0 and a form 1 edge under 1 are open", 0, 0, 15)
+excitation(0, 1, "n and p side by side and then p to 1: there is a p-connection", 0, 0, 16)
+excitation(0, 2, "p and then n to 0: mixed", 0, 0, 18)
+state("--02210122213331120", "all of them", 0)
+verdict(32, 0, "vertices 9 and 10 carry fights; no output, no key node")
+
+# C2: fights.
+
+PAIR = [ZERO, ONE]
+PULLED = [ZERO, ONE, STORAGE]
+UP = [(2, 3, P, 0)]
+
+net("an n edge under 1 from the 0-vertex to the 1-vertex", sheet(0, PAIR, [(1, 2, N, 1)]))
+verdict(32, 0, "one edge can be a fight; there is no storage vertex at all")
+net("a p edge under 0 from the 1-vertex to the 0-vertex", sheet(0, PAIR, [(2, 1, P, 0)]))
+verdict(32, 0, "a fight is any connection, of either type")
+net("an n edge under 0 and a p edge under 1 between them", sheet(0, PAIR, [(1, 2, N, 0), (1, 2, P, 1)]))
+verdict(0, 0, "both are always open")
+net("an edge under a letter between them", sheet(1, PAIR, [(1, 2, N, letter(1))]))
+verdict(32, 0, "closed at letter 1")
+net("a transmission gate under letter 8 between them", sheet(8, PAIR, pass_off(1, 2, letter(8))))
+verdict(32, 0, "closed where letter 8 is 0")
+net("closed edges between vertices that both carry 0, and between vertices that carry one letter", sheet(
+    1, [ZERO, ZERO, carries(1), carries(1)], [(1, 2, N, 1), (3, 4, P, 0), (3, 4, N, letter(1))]))
+verdict(0, 0, "a fight needs the values 0 and 1; these pairs never differ")
+net("a closed edge between vertices that carry two letters", sheet(2, [carries(1), carries(2)], [(1, 2, P, 0)]))
+verdict(32, 0, "at letters 0 and 1 the values differ")
+net("an edge under a from the 0-vertex to a vertex that carries a", sheet(1, [ZERO, carries(1)], [(1, 2, N, letter(1))]))
+verdict(32, 0, "closed at a 1, where the values are 0 and 1")
+net("an edge under a hat from the 0-vertex to a vertex that carries a", sheet(1, [ZERO, carries(1)], [(1, 2, P, letter(1))]))
+verdict(0, 0, "closed only at a 0, where both are 0")
+net("an edge between the rails under key node 3, which is always pulled to 1", sheet(0, PULLED, UP + [(1, 2, N, vertex(3))]))
+state("--1", "key 1: stable; the rails are joined, yet 3 is joined to the 1-vertex alone: no inner vertex may be an input vertex", 0, 1)
+verdict(32, 0, "the edge is closed in the stable state; walking through a rail would wrongly give 31")
+net("the same under key node 3 hat", sheet(0, PULLED, UP + [(1, 2, P, vertex(3))]))
+state("--1", "key 0: not stable, and the rails are joined", 0, 0)
+verdict(0, 0, "a fight only in an unstable state")
+net("an oscillator's key node as the symbol of an edge between the rails", sheet(0, [ZERO, ONE, OUTPUT], inverter(3, vertex(3)) + [(1, 2, N, vertex(3))]))
+verdict(0, 0, "a net with no stable state meets C2 and C3")
+net("key node 3 = a'; an edge under it from the 1-vertex to vertex 4, which carries a", sheet(
+    1, [ZERO, ONE, STORAGE, carries(1)], inverter(3, letter(1)) + [(2, 4, N, vertex(3))]))
+verdict(32, 0, "at a 0 the stable key state closes the edge, with 1 and 0 at its ends")
+net("the same under key node 3 hat", sheet(1, [ZERO, ONE, STORAGE, carries(1)], inverter(3, letter(1)) + [(2, 4, P, vertex(3))]))
+verdict(0, 0, "where it is closed and its ends differ, a is 0 and the key node 0: not stable")
+net("key node 3 = a'; output 4 joined to 0 under it, and to 1 by a transmission gate under a", sheet(
+    1, [ZERO, ONE, STORAGE, OUTPUT], inverter(3, letter(1)) + [(1, 4, N, vertex(3))] + pass_on(2, 4, letter(1))))
+state("--01", "a 1 with 0: stable", 1, 0)
+state("--10", "a 0 with 1: stable", 0, 1)
+state("--02", "a 1 with 1: a fight through the output, which is 2, but not stable", 1, 1)
+state("--13", "a 0 with 0: the output floats, not stable", 0, 0)
+verdict(0, 0, "C2 and C3 are about stable states alone")
+net("3 joined firmly to the 1-vertex, which is joined to 4, which is joined to the 0-vertex; 3 is the symbol of an edge that is open in the stable state", sheet(
+    0, [ZERO, ONE, STORAGE, STORAGE], [(2, 3, P, 0), (2, 4, P, 0), (4, 1, N, 1), (1, 4, P, vertex(3))]))
+state("--12", "the walk from 3 to 0 would go through the 1-vertex, so 3 is 1 and only 4 is 2; stable", 0, 1)
+verdict(32, 0, "C1 holds at 3; the fight goes through 4, a storage vertex")
+net("3 joined to vertex 4, which carries a, and that to vertex 5, which carries b", sheet(
+    2, [ZERO, ONE, OUTPUT, carries(1), carries(2)], [(4, 3, N, 1), (4, 3, P, 0), (4, 5, N, 1)]))
+state("--1--", "a 1 b 0: 3 is joined to a alone", 1)
+state("--0--", "a 0 b 1: 3 is joined to a alone", 2)
+verdict(32, 0, "a and b fight where they differ; 3 itself is never 2")
+
+# C3: outputs.
+
+net("output 3 joined to the 1-vertex by an n edge", sheet(0, [ZERO, ONE, OUTPUT], [(2, 3, N, 1)]))
+verdict(33, 3, "an n-connection to 1 is 2")
+net("the same with a storage vertex that is no output", sheet(0, PULLED, [(2, 3, N, 1)]))
+verdict(0, 0, "C3 is about outputs")
+net("output 3 with no edge", sheet(0, [ZERO, ONE, OUTPUT], []))
+state("--3", "no connection", 0)
+verdict(0, 0, "3 is allowed")
+net("3 output at 1, 4 no output at 2, 5 and 6 outputs at 2", sheet(
+    0, [ZERO, ONE, OUTPUT, STORAGE, OUTPUT, OUTPUT], [(2, 3, P, 0), (2, 4, N, 1), (2, 6, N, 1), (1, 5, P, 0)]))
+verdict(33, 5, "the lowest offending output")
+net("output 3 at 2 only at a 1, output 4 at 2 only at a 0", sheet(
+    1, [ZERO, ONE, OUTPUT, OUTPUT], [(2, 3, N, letter(1)), (1, 4, P, letter(1))]))
+state("--32", "a 0", 0)
+state("--23", "a 1", 1)
+verdict(33, 3, "the lowest output over all stable states, not the first one met")
+net("key node 3 = a'; output 4 joined to 0 by a p edge under 3", sheet(
+    1, [ZERO, ONE, STORAGE, OUTPUT], inverter(3, letter(1)) + [(1, 4, P, vertex(3))]))
+state("--02", "a 1 with 0: stable, the output is 2", 1, 0)
+verdict(33, 4, "2 in a stable state")
+net("key node 3 always pulled to 1; output 4 joined to 0 by a p edge under 3", sheet(0, PULLED + [OUTPUT], UP + [(1, 4, P, vertex(3))]))
+state("--12", "key 0: the output is 2, not stable", 0, 0)
+verdict(0, 0, "2 only in an unstable state")
+
+# C1, and the order of 31, 32, 33.
+
+net("storage vertex 3 is output and key node, and has no edge but one that it is the symbol of", sheet(
+    0, [ZERO, ONE, OUTPUT, STORAGE], [(1, 4, N, vertex(3))]))
+state("--33", "key 0: not stable", 0, 0)
+verdict(31, 3, "a key node excited to 3 breaks C1, though C3 allows an output at 3")
+net("storage vertex 3 is output and key node, joined to 1 by an n edge", sheet(0, [ZERO, ONE, OUTPUT, STORAGE], [(2, 3, N, 1), (1, 4, N, vertex(3))]))
+verdict(31, 3, "2 at a key node is 31 before it is 33; a key node at 2 is never stable")
+net("storage vertex 3 is output and key node, pulled to 0", sheet(0, [ZERO, ONE, OUTPUT], [(1, 3, N, 1), (2, 3, P, 1), (1, 3, N, vertex(3))]))
+state("--0", "key 0: stable", 0, 0)
+state("--0", "key 1: not stable", 0, 1)
+verdict(0, 0, "clean in both states")
+RIGHT = [(1, 2, N, 1), (2, 4, N, 1), (1, 5, N, vertex(3))]
+net("key node 3 floats at a 1; the rails are joined; output 4 is at 2", sheet(
+    1, [ZERO, ONE, STORAGE, OUTPUT, STORAGE], [(2, 3, P, letter(1))] + RIGHT))
+verdict(31, 3, "31 comes before 32 and 33, though the state at a 0 is stable and breaks both")
+net("the same with key node 3 always pulled to 1", sheet(1, [ZERO, ONE, STORAGE, OUTPUT, STORAGE], [(2, 3, P, 0)] + RIGHT))
+verdict(32, 0, "32 comes before 33")
+net("the same without the edge between the rails", sheet(1, [ZERO, ONE, STORAGE, OUTPUT, STORAGE], [(2, 3, P, 0)] + RIGHT[1:]))
+verdict(33, 4, "33 is left")
+net("key node 3 = a', key node 4 floats at a 1, key node 5 floats at a 0", sheet(
+    1, [ZERO, ONE, STORAGE, STORAGE, STORAGE, STORAGE],
+    [(1, 6, N, vertex(5)), (1, 6, N, vertex(4)), (1, 6, N, vertex(3)), (5, 1, N, letter(1)), (2, 4, P, letter(1))] + inverter(3, letter(1))))
+state("--1133", "a 0, all key nodes 0: 5 floats, not stable", 0, 0)
+state("--0300", "a 1, all key nodes 1: 4 floats, not stable", 1, 7)
+verdict(31, 4, "the lowest offending key vertex, not the first one met nor the first on the sheet")
+
+# The largest counts.
+
+CHAIN = inverter(3, letter(8)) + [edge for y in range(4, 16) for edge in inverter(y, vertex(y - 1))]
+
+net("letter 8 and twelve key nodes, 3 to 14, each the inverse of the one before; output 15", sheet(8, [ZERO, ONE] + [STORAGE] * 12 + [OUTPUT], CHAIN))
+state("--0101010101010", "letter 8 at 1: key 2730 is stable", 128, 2730)
+state("--1010101010101", "letter 8 at 0, all others at 1: key 1365 is stable", 127, 1365)
+state("--0000000000000", "input 255 and key 4095 are the last ones, not stable", 255, 4095)
+state("--1111111111111", "input 0 and key 0, not stable", 0, 0)
+excitation(42, 0, "row 42: 2^8", 256, 0, 3)
+excitation(43, 0, "row 43: 2^12", 0, 4096, 3)
+verdict(0, 0, "gates of the complementary design")
+
+
+def long_chain(forms):
+    """Vertex 1 carries 1; 95 storage vertices in a row, joined under letter 1; the far edges come first on the sheet. Vertex 96 is an output."""
+    return sheet(1, [ONE] + [STORAGE] * 94 + [OUTPUT], [(v, v + 1, forms(v), letter(1)) for v in range(95, 0, -1)])
+
+
+net("a row of 95 storage vertices, joined by p edges to a 1-vertex", long_chain(lambda v: P))
+excitation(0, 1, "letter 0: a p-connection of 95 edges", 0, 0, 96)
+excitation(0, 3, "letter 1: all are open", 1, 0, 96)
+excitation(48, 0, "row 48: vertex 97 of 96", 0, 0, 97)
+verdict(0, 0, "the output is 1 or 3")
+net("the same row, its edge between 48 and 49 always closed and of type n", sheet(
+    1, [ONE] + [STORAGE] * 94 + [OUTPUT], [(v, v + 1, P, letter(1)) if v != 48 else (v, v + 1, N, 1) for v in range(95, 0, -1)]))
+excitation(0, 1, "letter 0: 48 has a p-connection", 0, 0, 48)
+excitation(0, 2, "letter 0: from 49 on the connection is mixed", 0, 0, 49)
+verdict(33, 96, "the output at the far end is 2")
+
+# Numbers: 41, 42, 43, 48 and their order.
+
+net("no bytes", b"", 11, 0)
+verdict(41, 0, "row 41: a refused sheet gives the empty record, which no accepted sheet gives")
+excitation(41, 0, "row 41", 0, 0, 1)
+excitation(41, 0, "41 before 42, 43 and 48", 4294967295, 4294967295, 4294967295)
+net("a sheet with a form 3 edge that has no partner", sheet(1, [ZERO, ONE, OUTPUT, STORAGE], [(2, 3, P_PRIMED, letter(1))]), 21, 6)
+verdict(41, 0, "row 41: refused by the graph rows, the record is empty too")
+excitation(41, 0, "row 41: vertex 3 was storage on the sheet", 0, 0, 3)
+
+net("the NOR latch again: two letters, two key nodes, storage vertices 3 to 6", sheet(2, STORED, LATCH))
+excitation(0, 0, "input 3 and key 3 are the last ones", 3, 3, 4)
+excitation(42, 0, "row 42: 2^L", 4, 0, 3)
+excitation(42, 0, "row 42: 256, whose low byte is an input state", 256, 0, 3)
+excitation(42, 0, "row 42: 65536, whose low half is an input state", 65536, 0, 3)
+excitation(42, 0, "row 42: the largest number of 32 bits", 4294967295, 0, 3)
+excitation(43, 0, "row 43: 2^h", 0, 4, 3)
+excitation(43, 0, "row 43: 256, whose low byte is a key state", 0, 256, 3)
+excitation(43, 0, "row 43: 65536, whose low half is a key state", 0, 65536, 3)
+excitation(43, 0, "row 43: the largest number of 32 bits", 0, 4294967295, 3)
+excitation(48, 0, "row 48: vertex 0", 0, 0, 0)
+excitation(48, 0, "row 48: an input vertex", 0, 0, 1)
+excitation(48, 0, "row 48: the other input vertex", 0, 0, 2)
+excitation(0, 1, "vertex V is storage", 0, 0, 6)
+excitation(48, 0, "row 48: vertex V + 1", 0, 0, 7)
+excitation(48, 0, "row 48: 256 + 3, whose low byte is a storage vertex", 0, 0, 259)
+excitation(48, 0, "row 48: 65536 + 3, whose low half is a storage vertex", 0, 0, 65539)
+excitation(48, 0, "row 48: the largest number of 32 bits", 0, 0, 4294967295)
+excitation(42, 0, "42 before 43 and 48", 4, 4, 0)
+excitation(42, 0, "42 before 48", 4, 0, 7)
+excitation(43, 0, "43 before 48", 0, 4, 0)
+
+here = pathlib.Path(__file__).parent.parent / "crates" / "verdict_cases"
+given, wanted = b"", b""
+for kind, numbers, data, answer, note in CASES:
+    text = note.encode()
+    given += kind + field(len(text)) + b"".join(large(n) for n in numbers) + field(len(data)) + text + data
+    wanted += answer + b" " + text + b"\n"
+assert len(given) <= 65536, "the program reads no more than its buffer holds"
+here.mkdir(exist_ok=True)
+(here / "stdin").write_bytes(given)
+(here / "stdout").write_bytes(wanted)
