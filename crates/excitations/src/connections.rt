@@ -93,10 +93,10 @@ fn is_closed<'a>(
     let count = net.edge_count as usize;
     for i in 0..count {
         let edge = net.edges[i];
-        let u = edge.end1 as usize;
-        let v = edge.end2 as usize;
-        if storage[u] == 1 && storage[v] == 1 {
-            if !lanes::is_level(marks, u, v, on, i) {
+        let first = edge.end1 as usize;
+        let second = edge.end2 as usize;
+        if storage[first] == 1 && storage[second] == 1 {
+            if !lanes::is_level(marks, first, second, on, i) {
                 return false;
             }
         }

@@ -40,11 +40,11 @@ mul-edge c = omega (arith, c .before .before .pre .0 .edges)
 element-copy-out-edge : tie.Need-element-copy-out-edge Inv-loop μ-loop
 element-copy-out-edge c = omega (arith, c .before .before .pre .0 .edges)
 
-cast-u : tie.Need-cast-u Inv-loop μ-loop
-cast-u c = omega (arith, ends (c .before .before))
+cast-first : tie.Need-cast-first Inv-loop μ-loop
+cast-first c = omega (arith, ends (c .before .before))
 
-cast-v : tie.Need-cast-v Inv-loop μ-loop
-cast-v c = omega (arith, ends (c .before .before .before))
+cast-second : tie.Need-cast-second Inv-loop μ-loop
+cast-second c = omega (arith, ends (c .before .before .before))
 
 element-copy-out-if1 : tie.Need-element-copy-out-if1 Inv-loop μ-loop
 element-copy-out-if1 c = omega (arith, ends (c .before .before .before))
@@ -103,8 +103,8 @@ is-closed-spec =
     loop-holds
     mul-edge
     element-copy-out-edge
-    cast-u
-    cast-v
+    cast-first
+    cast-second
     element-copy-out-if1
     element-copy-out-if2
     is-level-requires
