@@ -1,6 +1,4 @@
 //! Which edges a connection may use, in lanes.
-use graph::signals;
-use graph::symbols;
 use lanes;
 use net::Condition;
 use net::Kind;

@@ -1,6 +1,5 @@
 //! Connections to input vertices, in lanes.
 use crate::conditions;
-use graph::symbols;
 use lanes;
 use net::Kind;
 use net::Net;

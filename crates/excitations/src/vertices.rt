@@ -1,7 +1,6 @@
 //! The tables: excitations and fights of every storage vertex, in lanes.
 use crate::conditions;
 use crate::connections;
-use graph::signals;
 use graph::tables;
 use lanes;
 use net::Kind;

@@ -1,7 +1,5 @@
-//! The graph of a net in code: symbols by number, the walk over edges, the tables of a graph, and the signals of a component.
+//! The graph of a net in code: the walk over edges, and the tables of a graph.
 //! Types, definitions and laws are those of the crate `net`.
 
-pub mod signals;
-pub mod symbols;
 pub mod tables;
 pub mod walk;

@@ -1,5 +1,4 @@
 //! The graph of a net as tables of bytes: an entry for each edge, or for each vertex number from 0.
-use crate::symbols;
 use crate::walk;
 use net::Net;
 ghost use mathlib.Core.Path.{_≡_};

@@ -1,5 +1,5 @@
 //! The record of a net, the report's CMOS graph: its vertices, its edges and how many letters it has.
-//! What a net means stands in specs/, the laws of it in proofs/. The functions over it are in the crate `graph`.
+//! What a net means stands in specs/, the laws of it in proofs/. The functions over it are in the crates `symbols`, `graph` and `signals`.
 
 ghost use mathlib.Core.Path.{_≡_};
 ghost use Rattle.net.specs.Limits.{limits};

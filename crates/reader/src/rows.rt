@@ -13,7 +13,6 @@ ghost use Rattle.sheet.specs.Graph.{isPartner, lacksPartner, partnerPlace, keyP
 ghost use Rattle.sheet.specs.Search.{foundOf, joinsLower};
 use crate::tests::both;
 use crate::tests::either;
-use graph::signals;
 use graph::tables;
 use net::Edge;
 use net::Net;

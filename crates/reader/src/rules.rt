@@ -7,7 +7,6 @@ ghost use Rattle.net.specs.Symbols.{within};
 ghost use Rattle.net.specs.Graph.{isStorage};
 ghost use Rattle.net.specs.Known.{knownSymbol, knownLabel};
 ghost use Rattle.sheet.specs.Rules.{countsOk, headerOk, vertexOk, symbolOk, edgeOk, formOf};
-use graph::symbols;
 use net::Edge;
 use net::Net;
 use net::Symbol;
