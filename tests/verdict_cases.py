@@ -12,65 +12,13 @@ The kinds of cases, and what the program prints for each before the note:
 
 A case in the input: its kind (one byte), the length of its note, the input state, the key state, the vertex, the length of its sheet, the note,
 the sheet. The lengths have four columns; the other three numbers have three fields of four columns each, four decimal digits to a field.
-Where the report's drawing is lost, the sheet is made so that the report's sentences on it hold; the notes say which sentence.
+The report's networks stand in sheets.py; the notes say which sentence of the report a sheet is made to satisfy.
 """
 import pathlib
 
+from sheets import *
+
 CASES = []
-ZERO, ONE, STORAGE, OUTPUT = (0, 0), (0, 1), (1, 0), (2, 0)
-N, P, N_PRIMED, P_PRIMED = 0, 1, 2, 3
-
-
-def field(n):
-    return b"%4d" % n
-
-
-def large(n):
-    return field(n // 10 ** 8) + field(n // 10 ** 4 % 10 ** 4) + field(n % 10 ** 4)
-
-
-def line(*numbers):
-    return b"".join(field(n) for n in numbers) + b"\n"
-
-
-def letter(j):
-    return 10 + j
-
-
-def vertex(v):
-    return 100 + v
-
-
-def carries(j):
-    """An input vertex with a letter."""
-    return (0, letter(j))
-
-
-def sheet(letters, vertices, edges):
-    """Vertices are given by role and label, edges by their ends, form and symbol."""
-    return (line(1, len(vertices), len(edges), letters, 1)
-            + b"".join(line(2, v + 1, role, label, 0) for v, (role, label) in enumerate(vertices))
-            + b"".join(line(3, *edge) for edge in edges))
-
-
-def inverter(y, symbol):
-    """y is pulled to 0 by vertex 1 where the symbol is 1, and to 1 by vertex 2 where it is 0."""
-    return [(y, 1, N, symbol), (2, y, P, symbol)]
-
-
-def pass_on(x, y, symbol):
-    """A transmission gate, closed where the symbol is 1."""
-    return [(x, y, N, symbol), (x, y, P_PRIMED, symbol)]
-
-
-def pass_off(x, y, symbol):
-    """A transmission gate, closed where the symbol is 0."""
-    return [(x, y, N_PRIMED, symbol), (x, y, P, symbol)]
-
-
-def nand(y, inner, one, two):
-    """y is the NAND of two symbols; the inner vertex lies between the two n edges."""
-    return [(2, y, P, one), (2, y, P, two), (y, inner, N, one), (inner, 1, N, two)]
 
 
 def case(kind, answer, note, numbers=(0, 0, 0), data=b""):
@@ -93,11 +41,9 @@ def state(characters, note, asked_input, asked_key=0):
     case(b"S", characters.encode(), note, (asked_input, asked_key, 0))
 
 
-# The report's networks. Vertex 1 carries 0 and vertex 2 carries 1 unless said otherwise.
+# The report's networks.
 
-GATE = [(2, 4, P, letter(2)), (4, 3, P, letter(1)), (3, 1, N, letter(1)), (3, 1, N, letter(2))]
-
-net("NOR gate, figure 2.2: letters a b, output z 3, inner vertex y 4", sheet(2, [ZERO, ONE, OUTPUT, STORAGE], GATE))
+net("NOR gate, figure 2.2: letters a b, output z 3, inner vertex y 4", NOR_GATE)
 state("--11", "a 0 b 0: z = (a + b)' is 1; y has a p-connection to 1", 0)
 state("--01", "a 1 b 0: z is 0; y is still joined to 1 by the upper p edge", 1)
 state("--02", "a 0 b 1: z is 0; y has no connection to 1 and a mixed one to 0, so 2", 2)
@@ -117,11 +63,7 @@ excitation(0, 3, "section 7: for a = b = 0 z floats", 0, 0, 3)
 state("--01", "a 0 b 0 became 3; a 1 b 0 is as before", 1)
 verdict(0, 0, "C3 allows an output at 3")
 
-LATCH = [(2, 5, P, letter(1)), (5, 3, P, vertex(4)), (3, 1, N, letter(1)), (3, 1, N, vertex(4)),
-         (2, 6, P, letter(2)), (6, 4, P, vertex(3)), (4, 1, N, letter(2)), (4, 1, N, vertex(3))]
-STORED = [ZERO, ONE, OUTPUT, OUTPUT, STORAGE, STORAGE]
-
-net("NOR latch, figure 3.2: letters S R, key nodes and outputs Q bar 3 and Q 4, inner vertices y1 5 and y2 6", sheet(2, STORED, LATCH))
+net("NOR latch, figure 3.2: letters S R, key nodes and outputs Q bar 3 and Q 4, inner vertices y1 5 and y2 6", NOR_LATCH)
 state("--0111", "example 3.1, row 1: S 0 R 0, Q bar 0 Q 1, stable", 0, 2)
 state("--1011", "example 3.1, row 2: S 0 R 0, Q bar 1 Q 0, stable", 0, 1)
 state("--1013", "example 3.1, row 3: S 0 R 1, Q bar 1 Q 0, stable, y2 floats", 2, 1)
@@ -154,22 +96,18 @@ verdict(32, 0, "row 5 has Q bar 0 and Q 0: a fight in a stable state")
 net("the NOR latch, and an edge under Q from the 0-vertex to the 1-vertex", sheet(2, STORED, LATCH + [(1, 2, N, vertex(4))]))
 verdict(32, 0, "row 1 has Q 1: one edge can be a fight")
 
-net("multiplexer, figure 2.4: letters a b c, output z 3; 4 carries b and 5 carries c", sheet(
-    3, [ZERO, ONE, OUTPUT, carries(2), carries(3)], pass_on(4, 3, letter(1)) + pass_off(5, 3, letter(1))))
+net("multiplexer, figure 2.4: letters a b c, output z 3; 4 carries b and 5 carries c", MULTIPLEXER)
 for number, value, letters in ((0, 0, "000"), (1, 0, "100"), (2, 0, "010"), (3, 1, "110"), (4, 1, "001"), (5, 0, "101"), (6, 1, "011"), (7, 1, "111")):
     state("--%d--" % value, "z = ab + a'c at abc %s" % letters, number)
 verdict(0, 0, "z is always b or c, by a transmission gate that carries both values firmly")
 
-net("oscillator, figure 3.4(a): key node and output 3", sheet(0, [ZERO, ONE, OUTPUT], inverter(3, vertex(3))))
+net("oscillator, figure 3.4(a): key node and output 3", OSCILLATOR)
 state("--1", "key 0: the key node goes to 1, not stable", 0, 0)
 state("--0", "key 1: the key node goes to 0, not stable", 0, 1)
 verdict(0, 0, "section 3: well formed without any stable state; document 01: such a net meets C2 and C3")
 excitation(42, 0, "row 42: without letters the one input state is 0", 1, 0, 3)
 
-net("combinational network, figure 3.4(b): letters a b c, outputs z1 3 and z2 4, inner vertex 5", sheet(
-    3, [ZERO, ONE, OUTPUT, OUTPUT, STORAGE],
-    [(2, 3, P, letter(1)), (2, 3, P, letter(2)), (3, 5, N, letter(2)), (2, 4, P, letter(1)), (2, 4, P, letter(3)), (4, 5, N, letter(3)),
-     (5, 1, N, letter(1))]))
+net("combinational network, figure 3.4(b): letters a b c, outputs z1 3 and z2 4, inner vertex 5", COMBINATIONAL)
 state("--113", "z1 = (ab)', z2 = (ac)' at abc 000: 11; the inner vertex floats", 0)
 state("--110", "abc 100: 11; the inner vertex is pulled to 0", 1)
 state("--112", "abc 010: 11; the inner vertex has an n edge and then a p edge to 1, mixed", 2)
@@ -181,25 +119,19 @@ state("--000", "abc 111: 00", 7)
 verdict(0, 0, "section 3: the graph of figure 3.4(b) is well formed")
 excitation(43, 0, "row 43: without key nodes the one key state is 0", 0, 1, 3)
 
-net("figure 3.4(c): letters a b c, y1 3, y2 4, output 5; 6 carries b and 7 carries c", sheet(
-    3, [ZERO, ONE, STORAGE, STORAGE, OUTPUT, carries(2), carries(3)],
-    inverter(3, letter(1)) + [(6, 4, N, vertex(3)), (6, 4, P, letter(1)), (7, 4, N, letter(1)), (7, 4, P, vertex(3))] + inverter(5, vertex(4))))
+net("figure 3.4(c): letters a b c, y1 3, y2 4, output 5; 6 carries b and 7 carries c", NOT_WELL_FORMED)
 state("--121--", "a b c y1 y2 all 0: the excitation of y2 is 2, since both its connections to 0 are p-connections, not stable", 0, 0)
 state("--101--", "once y1 has followed a, y2 has an n-connection to 0: stable", 0, 1)
 verdict(31, 4, "section 3: not well formed, key node y2 violates C1; y1 is a' and clean")
 
-net("selector, figure 4.1, the T-graph of figure 3.4(c): letters a b c, y2 3, output 4; 5 carries b and 6 carries c", sheet(
-    3, [ZERO, ONE, STORAGE, OUTPUT, carries(2), carries(3)],
-    pass_off(5, 3, letter(1)) + pass_on(6, 3, letter(1)) + inverter(4, vertex(3))))
+net("selector, figure 4.1, the T-graph of figure 3.4(c): letters a b c, y2 3, output 4; 5 carries b and 6 carries c", SELECTOR)
 for number, value, letters in ((0, 0, "000"), (1, 0, "100"), (2, 1, "010"), (3, 0, "110"), (4, 0, "001"), (5, 1, "101"), (6, 1, "011"), (7, 1, "111")):
     state("--%d%d--" % (value, 1 - value), "y2 is excited to b if a = 0, to c if a = 1: abc %s, y2 at that value, stable" % letters, number, value)
 state("--11--", "abc 010 from y2 0: not stable", 2, 0)
 state("--00--", "abc 000 from y2 1: not stable", 0, 1)
 verdict(0, 0, "example 4.1: well formed")
 
-net("D flip-flop, figure 4.2: letters c D, y 3, Q bar 4, Q 5; 6 carries D", sheet(
-    2, [ZERO, ONE, STORAGE, OUTPUT, OUTPUT, carries(2)],
-    inverter(4, vertex(3)) + inverter(5, vertex(4)) + pass_on(6, 3, letter(1)) + pass_off(5, 3, letter(1))))
+net("D flip-flop, figure 4.2: letters c D, y 3, Q bar 4, Q 5; 6 carries D", FLIP_FLOP)
 state("--111-", "c 0 D 0, y 0 Q bar 0: y goes to (Q bar)', Q bar to y', not stable", 0, 0)
 state("--101-", "c 0 D 0, y 1 Q bar 0: kept, stable", 0, 1)
 state("--010-", "c 0 D 0, y 0 Q bar 1: kept, stable", 0, 2)
@@ -216,28 +148,20 @@ state("--110-", "c 1 D 1, y 0 Q bar 1: y to D, not stable", 3, 2)
 state("--100-", "c 1 D 1, y 1 Q bar 1: Q bar to y', not stable", 3, 3)
 verdict(0, 0, "example 4.2: evidently well formed")
 
-net("tally network, figure 4.3: letters a b, inner vertices 3 and 4, outputs z0 5, z1 6, z2 7", sheet(
-    2, [ZERO, ONE, STORAGE, STORAGE, OUTPUT, OUTPUT, OUTPUT],
-    pass_off(2, 3, letter(1)) + pass_on(1, 3, letter(1)) + pass_off(1, 4, letter(1)) + pass_on(2, 4, letter(1))
-    + pass_off(3, 5, letter(2)) + pass_on(1, 5, letter(2)) + pass_off(4, 6, letter(2)) + pass_on(3, 6, letter(2))
-    + pass_off(1, 7, letter(2)) + pass_on(4, 7, letter(2))))
+net("tally network, figure 4.3: letters a b, inner vertices 3 and 4, outputs z0 5, z1 6, z2 7", TALLY)
 state("--10100", "example 4.3: a 0 b 0, none is 1, z0", 0)
 state("--01010", "example 4.3: a 1 b 0, one is 1, z1", 1)
 state("--10010", "example 4.3: a 0 b 1, one is 1, z1", 2)
 state("--01001", "example 4.3: a 1 b 1, two are 1, z2", 3)
 verdict(0, 0, "example 4.3: well formed")
 
-net("figure 4.4: letter a, y1 3, y2 4, y3 5, y4 6", sheet(
-    1, [ZERO, ONE, STORAGE, STORAGE, STORAGE, STORAGE],
-    inverter(3, letter(1)) + inverter(4, vertex(3)) + [(5, 1, N, letter(1)), (2, 5, P, vertex(4))] + inverter(6, vertex(5))))
+net("figure 4.4: letter a, y1 3, y2 4, y3 5, y4 6", TEMPORARY_FIGHT)
 state("--0020", "example 4.4: a 1, y1 y2 y3 101, the excitation of y3 is 2, not stable", 1, 5)
 state("--0101", "example 4.4: the state at which a 1 ends, y1 y2 y3 y4 0101, stable", 1, 2)
 state("--1131", "a 0, y1 y2 y3 010: both edges of y3 are open, not stable", 0, 2)
 verdict(31, 5, "example 4.4: rejected for a temporary fight, at y3")
 
-net("three NANDs, figure 6.2: letters a b, key nodes y1 3, y2 4, y3 5, inner vertices 6 7 8", sheet(
-    2, [ZERO, ONE, OUTPUT, OUTPUT, OUTPUT, STORAGE, STORAGE, STORAGE],
-    nand(3, 6, letter(1), vertex(4)) + nand(4, 7, vertex(3), vertex(5)) + nand(5, 8, vertex(4), letter(2))))
+net("three NANDs, figure 6.2: letters a b, key nodes y1 3, y2 4, y3 5, inner vertices 6 7 8", THREE_NANDS)
 state("--010030", "section 6: ab 11 with 010 is stable", 3, 2)
 state("--011002", "section 6: ab 10 with 011 is stable", 1, 6)
 state("--111032", "section 6: ab 00 from 010, all go to 1, not stable", 0, 2)
@@ -249,9 +173,7 @@ state("--111320", "section 6: ab 01 with 100, half of the oscillation, not stabl
 state("--100000", "section 6: ab 01 with 111, the other half, not stable", 2, 7)
 verdict(0, 0, "each gate is of the complementary design of figure 3.1, so proposition 3.3 holds")
 
-net("pessimism, figure 6.6: letters a b, y1 = (ab)' 3, y2 = (y1 y3)' 4, y3 = y2' 5, inner vertices 6 7", sheet(
-    2, [ZERO, ONE, OUTPUT, OUTPUT, OUTPUT, STORAGE, STORAGE],
-    nand(3, 6, letter(1), letter(2)) + nand(4, 7, vertex(3), vertex(5)) + inverter(5, vertex(4))))
+net("pessimism, figure 6.6: letters a b, y1 = (ab)' 3, y2 = (y1 y3)' 4, y3 = y2' 5, inner vertices 6 7", PESSIMISM)
 state("--10100", "section 6: a 0 b 1 with 101 is stable", 2, 5)
 state("--10120", "section 6: a 1 b 0 with 101 is stable too", 1, 5)
 state("--00100", "a 1 b 1 on the way pulls y1 to 0, the hazard that the ternary model sees, not stable", 3, 5)
@@ -266,8 +188,6 @@ state("1--", "key 1: a p-connection to 1 alone, stable", 0, 1)
 verdict(31, 1, "f0 is the complement of f1 here, yet C1 is broken: n-paths and p-paths alone do not decide it")
 
 # Document 01: the worked net, the forms, the four values.
-
-WORKED = sheet(1, [ZERO, ONE, OUTPUT, STORAGE], nand(3, 4, letter(1), vertex(3)))
 
 net("document 01's net of the program `settle`: letter a, key node 3 = (a y)', inner vertex 4", WORKED)
 state("--10", "a 0 with 1: stable, job 2 starts there", 0, 1)
@@ -451,7 +371,7 @@ net("a sheet with a form 3 edge that has no partner", sheet(1, [ZERO, ONE, OUTPU
 verdict(41, 0, "row 41: refused by the graph rows, the record is empty too")
 excitation(41, 0, "row 41: vertex 3 was storage on the sheet", 0, 0, 3)
 
-net("the NOR latch again: two letters, two key nodes, storage vertices 3 to 6", sheet(2, STORED, LATCH))
+net("the NOR latch again: two letters, two key nodes, storage vertices 3 to 6", NOR_LATCH)
 excitation(0, 0, "input 3 and key 3 are the last ones", 3, 3, 4)
 excitation(42, 0, "row 42: 2^L", 4, 0, 3)
 excitation(42, 0, "row 42: 256, whose low byte is an input state", 256, 0, 3)

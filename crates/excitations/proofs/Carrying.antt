@@ -18,7 +18,8 @@ use Rattle.net.proofs.Connected.{connected-iff}
 use Rattle.net.proofs.SignalLists.{component-sym}
 use Rattle.lanes.specs.Lanes.{assignments, lane}
 use Rattle.excitations.specs.Conditions.{owner, other, usableLanes}
-use Rattle.excitations.specs.Connections.{connectedAt, drives, drivenAt}
+use Rattle.excitations.specs.Connections.{connectedAt}
+use Rattle.excitations.specs.Sweeps.{drives, drivenAt}
 use Rattle.excitations.proofs.OwnerLaws.{storage-no-input}
 use Rattle.excitations.proofs.SameState.{input-same, keys-same}
 use Rattle.excitations.proofs.Edges.{owner-joins, owner-of, joined-component, on-iff}

@@ -26,7 +26,7 @@ use Rattle.lanes.proofs.GridLaws.{length-grid, grid-cell, grid-ext, setRow-grid
 use Rattle.lanes.proofs.LaneLaws.{column-read}
 use Rattle.excitations.specs.Fit.{Fit}
 use Rattle.excitations.specs.Conditions.{symbolAt, owner, other}
-use Rattle.excitations.specs.Connections.{drives, drivenAt, drivenLanes}
+use Rattle.excitations.specs.Sweeps.{drives, drivenAt, drivenLanes}
 use Rattle.excitations.proofs.FirstRows.{zeros-grid}
 use Rattle.excitations.proofs.OwnerLaws.{owner-range, labelOf, other-input, storage-no-input}
 use Rattle.excitations.proofs.PlaceLaws.{place-small}

@@ -45,22 +45,22 @@ module _ (N : Net) where
   owner-of e u x (inl h) su sx = let o = owner-first e (rw (h .0) su) in (o .0 ∙ h .0, o .1 ∙ h .1)
   owner-of e u x (inr h) su sx = let o = owner-second e (rw (h .0) sx) in (o .0 ∙ h .1, o .1 ∙ h .0)
 
+  pub itself : (y : ℕ) → isStorage N y ≡ true → SameComponent N y y
+  itself y s = record { from = s; to = s; joined = inl refl }
+
   -- the storage vertices that an edge joins are of one component
   pub joined-component : (i u v : ℕ) → i < N .«edge_count» → Joins (edgeAt N i) u v → isStorage N u ≡ true → isStorage N v ≡ true → SameComponent N u v
   joined-component i u v h j su sv = record { from = su; to = sv; joined = inr (edge (record { index = i; below = h; passes = refl; joins = j })) }
 
   module _ (i u v : ℕ) (h : i < N .«edge_count») (j : Joins (edgeAt N i) u v) (su : isStorage N u ≡ true) where
-    itself : SameComponent N u u
-    itself = record { from = su; to = su; joined = inl refl }
-
     pub owner-component : SameComponent N u (owner N (edgeAt N i))
     owner-component = go j
       where
         go : Joins (edgeAt N i) u v → SameComponent N u (owner N (edgeAt N i))
-        go (inl e) = subst (SameComponent N u) (sym (owner-first (edgeAt N i) (rw (e .0) su) .0 ∙ e .0)) itself
+        go (inl e) = subst (SameComponent N u) (sym (owner-first (edgeAt N i) (rw (e .0) su) .0 ∙ e .0)) (itself u su)
         go (inr e) = by-test (isStorage N v)
             (λ sv. subst (SameComponent N u) (sym (owner-first (edgeAt N i) (rw (e .0) sv) .0 ∙ e .0)) (joined-component i u v h j su sv))
-            (λ sv. subst (SameComponent N u) (sym (owner-second (edgeAt N i) (rw (e .0) sv) .0 ∙ e .1)) itself)
+            (λ sv. subst (SameComponent N u) (sym (owner-second (edgeAt N i) (rw (e .0) sv) .0 ∙ e .1)) (itself u su))
 
     -- the edge is usable at an assignment as it is in the state of u
     pub usable-from : (k : Kind) (w : ℕ) → usableAt N k i w ≡ usable N (spreadInput N u w) (spreadKeys N u w) k i

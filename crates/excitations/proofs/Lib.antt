@@ -11,3 +11,4 @@ pub mod PlaceLaws
 pub mod StateValues
 pub mod UsableLaws
 pub mod LaneTables
+pub mod TableReads

@@ -20,13 +20,14 @@ use Rattle.net.specs.Walks.{Joins, Walk, edge, via}
 use Rattle.net.specs.Classes.{inner}
 use Rattle.net.specs.SignalTable.{spreadInput, spreadKeys}
 use Rattle.net.specs.Tables.{Readable}
-use Rattle.net.proofs.Classes.{storage-range}
+use Rattle.net.proofs.TableLaws.{storage-row}
 use Rattle.net.proofs.SignalLists.{component-sym}
 use Rattle.lanes.specs.Lanes.{assignments, lane, raiseRow}
 use Rattle.lanes.proofs.GridLaws.{length-grid, grid-cell, grid-list}
 use Rattle.lanes.proofs.LaneLaws.{length-raiseRow, level-read}
 use Rattle.excitations.specs.Conditions.{usableLanes}
-use Rattle.excitations.specs.Connections.{connectedAt, connectedLanes, drivenAt, drivenLanes, sweep, isClosed}
+use Rattle.excitations.specs.Connections.{connectedAt, connectedLanes}
+use Rattle.excitations.specs.Sweeps.{drivenAt, drivenLanes, sweep, isClosed}
 use Rattle.excitations.proofs.SameState.{input-same, keys-same}
 use Rattle.excitations.proofs.Edges.{joined-component, on-iff}
 use Rattle.excitations.proofs.Carrying.{connected-storage, connected-reaches, driven-connected, link-drives, connected-carried}
@@ -43,10 +44,6 @@ pub record Marks (N : Net) (k : Kind) (b : ℕ) (r : List ℕ) : Type 0 where
 module _ (N : Net) (readable : Readable N) (k : Kind) (b : ℕ) where
   abbrev on : List ℕ
   on = usableLanes N k
-
-  -- a storage vertex has a row
-  row-of : (v : ℕ) → isStorage N v ≡ true → v ≤ mostVertices
-  row-of v sv = omega (arith, storage-range N v sv, readable .vertices)
 
   -- ---- the start
 
@@ -74,10 +71,10 @@ module _ (N : Net) (readable : Readable N) (k : Kind) (b : ℕ) where
   marks-raise {r} i u v h j su sv m =
       record {
         size = length-raiseRow on i u v r ∙ m .size;
-        binary = λ x w hx l. raise-by on i u v r w (m .size) (row-of v sv) l x (λ y. y < 2) (m .binary x w hx l) (λ _ _ _. lit< tt);
-        sound = λ x w hx l. raise-by on i u v r w (m .size) (row-of v sv) l x (λ y. y ≡ 1 → connectedAt N k b x w ≡ true) (m .sound x w hx l)
-            (λ e o f _. subst (λ (y : ℕ). connectedAt N k b y w ≡ true) (sym e) (connected-carried N k b w readable l i v u h j sv o (m .sound u w (row-of u su) l f)));
-        started = λ x w hx l e. raise-by on i u v r w (m .size) (row-of v sv) l x (λ y. y ≡ 1) (m .started x w hx l e) (λ _ _ _. refl);
+        binary = λ x w hx l. raise-by on i u v r w (m .size) (storage-row N readable v sv) l x (λ y. y < 2) (m .binary x w hx l) (λ _ _ _. lit< tt);
+        sound = λ x w hx l. raise-by on i u v r w (m .size) (storage-row N readable v sv) l x (λ y. y ≡ 1 → connectedAt N k b x w ≡ true) (m .sound x w hx l)
+            (λ e o f _. subst (λ (y : ℕ). connectedAt N k b y w ≡ true) (sym e) (connected-carried N k b w readable l i v u h j sv o (m .sound u w (storage-row N readable u su) l f)));
+        started = λ x w hx l e. raise-by on i u v r w (m .size) (storage-row N readable v sv) l x (λ y. y ≡ 1) (m .started x w hx l e) (λ _ _ _. refl);
       }
 
   marks-carry : (i : ℕ) → i < N .«edge_count» → inner N (edgeAt N i) ≡ true → (r : List ℕ) → Marks N k b r → Marks N k b (carry N on i r)
@@ -105,7 +102,7 @@ module _ (N : Net) (readable : Readable N) (k : Kind) (b : ℕ) where
     -- a connection has its mark: the last edge drives, and each edge before it carries
     walk-marked : {a q w u x : ℕ} → w < assignments → isStorage N u ≡ true → spreadInput N u w ≡ a → spreadKeys N u w ≡ q → inputOf N a q b x ≡ true → Walk N (usable N a q k) u x → lane r u w ≡ 1
     walk-marked {w = w} {u = u} {x = x} l su ea eq e (edge p) =
-        m .started u w (row-of u su) l
+        m .started u w (storage-row N readable u su) l
         (link-drives N k b w readable l (p .index) u x (p .below) (p .joins) su
         (on-iff N readable k (p .index) w u x (p .below) l (p .joins) su .1 (rw (ea, eq) (p .passes))) (rw (ea, eq) e))
     walk-marked {w = w} {u = u} {x = x} l su ea eq e (via {w = v} p sv t) =

@@ -1,14 +1,13 @@
 -- Values in a spread state: the symbols on an edge that touches a component are constants or signals of it, so bits of the assignment give them.
 use Prim.Native.Nat.{ℕ, _<_}
 use mathlib.Core.Path.{_≡_, refl, sym, ap, _∙_}
-use mathlib.Core.Bool.{Bool, true, false, cond, true≢false, false≢true}
+use mathlib.Core.Bool.{true, false, true≢false, false≢true}
 use mathlib.Core.Logic.{_⊎_, inl, inr}
 use native.Mathlib.Omega.{arith}
 use lib.Dec.{eqb}
 use Rattle.ternary.specs.Bits.{bit}
 use Rattle.ternary.proofs.BitLaws.{bit-lt, binary-iff}
 use Rattle.ternary.proofs.Tests.{by-test}
-use Rattle.net.specs.declared.Edge.{Edge}
 use Rattle.net.specs.declared.Net.{Net}
 use Rattle.net.specs.declared.Kind.{Kind}
 use Rattle.net.specs.declared.Symbol.{Symbol}
@@ -16,8 +15,8 @@ use Rattle.net.specs.declared.Symbol.the-variants.{Constant, Letter, Vertex, Un
 use Rattle.net.specs.Symbols.{decode, isVariable, symbolBound}
 use Rattle.net.specs.Graph.{vertexAt, edgeAt, isInput, isStorage}
 use Rattle.net.specs.State.{symbolValue, value, conditionOf, condition, admits, usable, inputOf}
-use Rattle.net.specs.Walks.{Joins, Link}
-use Rattle.net.specs.Component.{everyEdge, SameComponent, Signal, on-edge, on-input}
+use Rattle.net.specs.Walks.{Link}
+use Rattle.net.specs.Component.{everyEdge, Signal, on-edge, on-input}
 use Rattle.net.specs.SignalTable.{signalIndex, spreadInput, spreadKeys}
 use Rattle.net.specs.Known.{knownSymbol, knownLabel, Known}
 use Rattle.net.proofs.Values.{decode-by}
@@ -25,6 +24,7 @@ use Rattle.net.proofs.SignalTable.{spread-signal}
 use Rattle.lanes.specs.Lanes.{chosen}
 use Rattle.lanes.proofs.LaneLaws.{chosen-high, chosen-low}
 use Rattle.excitations.specs.Conditions.{symbolAt, owner, other, usableAt}
+use Rattle.excitations.proofs.Edges.{itself, owner-joins}
 
 -- ---- one symbol
 
@@ -74,19 +74,8 @@ module _ (N : Net) (known : Known N) where
 -- ---- an edge and the component that it touches
 
 module _ (N : Net) where
-  joins : (e : Edge) → Joins e (owner N e) (other N e)
-  unfolding owner other
-  joins e = go (isStorage N (e .end1))
-    where
-      go : (b : Bool) → Joins e (cond b (e .end1) (e .end2)) (cond b (e .end2) (e .end1))
-      go true = inl (refl, refl)
-      go false = inr (refl, refl)
-
   abbrev link : (i : ℕ) → i < N .«edge_count» → Link N everyEdge (owner N (edgeAt N i)) (other N (edgeAt N i))
-  link i h = record { index = i; below = h; passes = refl; joins = joins (edgeAt N i) }
-
-  itself : (y : ℕ) → isStorage N y ≡ true → SameComponent N y y
-  itself y e = record { from = e; to = e; joined = inl refl }
+  link i h = record { index = i; below = h; passes = refl; joins = owner-joins N (edgeAt N i) }
 
   module _ (known : Known N) (i : ℕ) (h : i < N .«edge_count») (sy : isStorage N (owner N (edgeAt N i)) ≡ true) where
     -- the edge's condition in the spread state
@@ -94,7 +83,7 @@ module _ (N : Net) where
         → usableAt N k i w ≡ admits k (conditionOf ((edgeAt N i) .form) (symbolAt (decode ((edgeAt N i) .symbol)) (bit w (signalIndex N (owner N (edgeAt N i)) ((edgeAt N i) .symbol)))))
     unfolding usableAt usable condition
     usable-at k w =
-        rw (sy, value-at N known (owner N (edgeAt N i)) w ((edgeAt N i) .symbol) (on-edge (itself _ sy) (link i h)))
+        rw (sy, value-at N known (owner N (edgeAt N i)) w ((edgeAt N i) .symbol) (on-edge (itself N _ sy) (link i h)))
 
     -- the value of the input vertex at the end opposite
     pub input-at : (b w : ℕ) → isInput N (other N (edgeAt N i)) ≡ true
@@ -102,4 +91,4 @@ module _ (N : Net) where
         ≡ eqb (symbolAt (decode ((vertexAt N (other N (edgeAt N i))) .label)) (bit w (signalIndex N (owner N (edgeAt N i)) ((vertexAt N (other N (edgeAt N i))) .label)))) b
     unfolding inputOf
     input-at b w e =
-        rw (e, value-at N known (owner N (edgeAt N i)) w ((vertexAt N (other N (edgeAt N i))) .label) (on-input (itself _ sy) (link i h) e))
+        rw (e, value-at N known (owner N (edgeAt N i)) w ((vertexAt N (other N (edgeAt N i))) .label) (on-input (itself N _ sy) (link i h) e))

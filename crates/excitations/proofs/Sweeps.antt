@@ -19,7 +19,7 @@ use Rattle.net.specs.Tables.{Readable}
 use Rattle.lanes.specs.Lanes.{assignments, lane, raised, raiseRow, level}
 use Rattle.lanes.proofs.GridLaws.{cell-inside, every-place}
 use Rattle.lanes.proofs.LaneLaws.{raised-up, length-raiseRow, raiseRow-same, raiseRow-other, level-found}
-use Rattle.excitations.specs.Connections.{sweep, isClosed}
+use Rattle.excitations.specs.Sweeps.{sweep, isClosed}
 
 -- a row for each number of a vertex
 abbrev pub Sized : List ℕ → Type 0

@@ -18,7 +18,7 @@ use Rattle.net.specs.Tables.{storageFlags}
 use Rattle.net.proofs.TableLaws.{storage-test}
 use Rattle.net.proofs.Flags.{and-false-right}
 use Rattle.lanes.specs.Lanes.{level}
-use Rattle.excitations.specs.Connections.{sweep, isClosed}
+use Rattle.excitations.specs.Sweeps.{sweep, isClosed}
 use Rattle.excitations.proofs.Sweeps.{carry, edgeLevel}
 
 module _ (N : Net) (i : ℕ) where

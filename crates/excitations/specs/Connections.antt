@@ -1,21 +1,15 @@
--- Connections to input vertices in lanes. Marks start at the vertices that an edge joins to such an input vertex, and sweeps over the edges carry
--- them on until nothing is left to carry.
-use Prim.Native.Nat.{ℕ, zero, suc}
-use mathlib.Core.Bool.{Bool, cond, not, _&&_, _||_}
+-- Connections to input vertices in lanes: what is meant. How the code finds them stands in Sweeps.
+use Prim.Native.Nat.{ℕ, suc}
+use mathlib.Core.Bool.{Bool, _&&_}
 use mathlib.Core.List.{List}
-use lib.Dec.{eqb}
 use Rattle.ternary.specs.Bits.{digit}
-use Rattle.ternary.specs.Lists.{anyBelow, allBelow}
 use Rattle.net.specs.declared.Net.{Net}
 use Rattle.net.specs.declared.Kind.{Kind}
 use Rattle.net.specs.Limits.{mostVertices}
-use Rattle.net.specs.Graph.{edgeAt, isStorage}
-use Rattle.net.specs.State.{inputOf}
-use Rattle.net.specs.Classes.{inner}
+use Rattle.net.specs.Graph.{isStorage}
 use Rattle.net.specs.Excitation.{connected}
 use Rattle.net.specs.SignalTable.{spreadInput, spreadKeys}
-use Rattle.lanes.specs.Lanes.{lanes, lane, raiseRow, level}
-use Rattle.excitations.specs.Conditions.{owner, other}
+use Rattle.lanes.specs.Lanes.{lanes}
 
 -- at assignment w of its component's signals, storage vertex y has a connection of kind k to an input vertex of value b
 unfoldable pub connectedAt : Net → Kind → ℕ → ℕ → ℕ → Bool
@@ -23,26 +17,3 @@ connectedAt N k b y w = isStorage N y && connected N (spreadInput N y w) (spread
 
 unfoldable pub connectedLanes : Net → Kind → ℕ → List ℕ
 connectedLanes N k b = lanes (suc mostVertices) (λ y w. digit (connectedAt N k b y w))
-
--- edge i joins y to an input vertex that has the value b at assignment w
-unfoldable pub drives : Net → ℕ → ℕ → ℕ → ℕ → Bool
-drives N b y w i = eqb (owner N (edgeAt N i)) y && inputOf N (spreadInput N y w) (spreadKeys N y w) b (other N (edgeAt N i))
-
--- one of the first n edges that are on does so
-unfoldable pub drivenAt : Net → List ℕ → ℕ → ℕ → ℕ → ℕ → Bool
-drivenAt N on b n y w = isStorage N y && anyBelow n (λ i. eqb (lane on i w) 1 && drives N b y w i)
-
-unfoldable pub drivenLanes : Net → List ℕ → ℕ → List ℕ
-drivenLanes N on b = lanes (suc mostVertices) (λ y w. digit (drivenAt N on b (N .«edge_count») y w))
-
--- marks after the first n edges: an edge between storage vertices that is on carries the mark of either end to the other
-unfoldable pub sweep : Net → List ℕ → ℕ → List ℕ → List ℕ
-sweep N on zero r = r
-sweep N on (suc n) r =
-    let s = sweep N on n r in
-    let e = edgeAt N n in
-    cond (inner N e) (raiseRow on n (e .end2) (e .end1) (raiseRow on n (e .end1) (e .end2) s)) s
-
--- no edge has a mark left to carry
-unfoldable pub isClosed : Net → List ℕ → List ℕ → Bool
-isClosed N on r = allBelow (N .«edge_count») (λ i. not (inner N (edgeAt N i)) || level on i r ((edgeAt N i) .end1) ((edgeAt N i) .end2))

@@ -1,4 +1,5 @@
 pub mod Fit
 pub mod Conditions
 pub mod Connections
+pub mod Sweeps
 pub mod Excitations

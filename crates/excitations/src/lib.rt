@@ -1,6 +1,3 @@
-//! Excitations of all storage vertices at every assignment of their components' signals, in tables of lanes: conditions of edges, connections
-//! to input vertices, and what they give. What the tables hold stands in specs/.
-
-pub mod conditions;
-pub mod connections;
-pub mod vertices;
+//! No code: definitions and laws of the excitations of all storage vertices at every assignment of their components' signals, in tables of lanes.
+//! Conditions of edges give connections to input vertices, and these give excitations. The functions are in the crates `conditions`, `connections` and
+//! `vertex_rows`.

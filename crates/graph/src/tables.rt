@@ -1,5 +1,5 @@
-//! The graph of a net as tables of bytes: an entry for each edge, or for each vertex number from 0.
-use crate::walk;
+//! The graph of a net as tables of bytes: an entry for each vertex number from 0.
+use crate::classes;
 use net::Net;
 ghost use mathlib.Core.Path.{_≡_};
 ghost use mathlib.Core.Bool.{_&&_, _||_};
@@ -10,7 +10,7 @@ ghost use Rattle.ternary.specs.Bits.{digit};
 ghost use Rattle.ternary.specs.Lists.{countBelow};
 ghost use Rattle.net.specs.Limits.{mostVertices};
 ghost use Rattle.net.specs.Graph.{keyCount};
-ghost use Rattle.net.specs.Tables.{Readable, storageFlags, firstEnds, secondEnds, innerFlags, componentLabels, keyFlags};
+ghost use Rattle.net.specs.Tables.{Readable, storageFlags, componentLabels, keyFlags};
 
 fn storage_flag(role: u8) -> u8
     ensures { λ r. ⌜ r ≡ digit (eqb role 1 || eqb role 2) ⌝ }
@@ -34,26 +34,11 @@ pub fn storage_flags(net: Net) -> [u8; Net::VERTEX_PLACES]
     flags
 }
 
-// The first end of each edge, in use or not.
-pub(crate) fn first_ends(net: Net) -> [u8; Net::MOST_EDGES]
-    ensures { λ r. ⌜ r ≡ firstEnds net ⌝ }
+// 1 for two equal numbers, else 0.
+pub fn equal(a: u8, b: u8) -> u8
+    ensures { λ r. ⌜ r ≡ digit (eqb a b) ⌝ }
 {
-    let mut ends = [0u8; Net::MOST_EDGES];
-    for i in 0..Net::MOST_EDGES {
-        ends[i] = net.edges[i].end1;
-    }
-    ends
-}
-
-// And the second.
-pub(crate) fn second_ends(net: Net) -> [u8; Net::MOST_EDGES]
-    ensures { λ r. ⌜ r ≡ secondEnds net ⌝ }
-{
-    let mut ends = [0u8; Net::MOST_EDGES];
-    for i in 0..Net::MOST_EDGES {
-        ends[i] = net.edges[i].end2;
-    }
-    ends
+    if a == b { 1 } else { 0 }
 }
 
 // 1 if both flags are 1, else 0.
@@ -66,29 +51,20 @@ pub fn both(a: u8, b: u8) -> u8
     if b == 1 { 1 } else { 0 }
 }
 
-// 1 at each edge in use that joins storage vertices, 0 elsewhere.
-pub(crate) fn inner_flags(net: Net, storage: &[u8; Net::VERTEX_PLACES]) -> [u8; Net::MOST_EDGES]
-    requires { ⌜ Readable net × (now storage ≡ storageFlags net) ⌝ }
-    ensures { λ r. ⌜ r ≡ innerFlags net ⌝ }
-{
-    let mut flags = [0u8; Net::MOST_EDGES];
-    let count = net.edge_count as usize;
-    for i in 0..count {
-        let edge = net.edges[i];
-        flags[i] = both(storage[edge.end1 as usize], storage[edge.end2 as usize]);
-    }
-    flags
-}
-
-// The label of each vertex's component: the walk over the edges that join storage vertices.
+// The label of each vertex's component: each edge in use that joins storage vertices makes one class of its ends' classes.
 pub fn component_labels(net: Net, storage: &[u8; Net::VERTEX_PLACES]) -> [u8; Net::VERTEX_PLACES]
     requires { ⌜ Readable net × (now storage ≡ storageFlags net) ⌝ }
     ensures { λ r. ⌜ r ≡ componentLabels net ⌝ }
 {
-    let first = first_ends(net);
-    let second = second_ends(net);
-    let inner = inner_flags(net, storage);
-    walk::class_labels(&first, &second, &inner, net.edge_count as usize)
+    let mut labels = classes::own_labels();
+    let count = net.edge_count as usize;
+    for i in 0..count {
+        let edge = net.edges[i];
+        if both(storage[edge.end1 as usize], storage[edge.end2 as usize]) == 1 {
+            classes::merge_classes(&mut labels, edge.end1, edge.end2);
+        }
+    }
+    labels
 }
 
 // 1 at each key node, 0 elsewhere: a storage vertex that is the symbol of an edge in use. A symbol that is no vertex copies the flag of

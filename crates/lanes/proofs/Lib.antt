@@ -1,2 +1,4 @@
 pub mod GridLaws
+pub mod ColumnLaws
 pub mod LaneLaws
+pub mod PartLaws

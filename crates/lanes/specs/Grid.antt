@@ -21,3 +21,7 @@ setRow w v f r = table (length r) (λ i. cond (eqb (i / w) v) (f (i % w)) (getD 
 -- n rows from row v on become those of f
 unfoldable pub setRows : ℕ → ℕ → ℕ → (ℕ → ℕ → ℕ) → List ℕ → List ℕ
 setRows w v n f r = table (length r) (λ i. cond (leb v (i / w) && ltb (i / w) (v + n)) (f (i / w - v) (i % w)) (getD r i 0))
+
+-- column k becomes f, the other columns stay
+unfoldable pub setColumn : ℕ → ℕ → (ℕ → ℕ) → List ℕ → List ℕ
+setColumn w k f r = table (length r) (λ i. cond (eqb (i % w) k) (f (i / w)) (getD r i 0))

@@ -1,14 +1,10 @@
 -- `decode` and `conditionOf` case by case, for the proofs of code that matches on numbers.
-use mathlib.Core.Path.{_≡_, refl, sym}
-use mathlib.Core.Bool.{Bool, true, false, cond, _&&_}
+use mathlib.Core.Path.{_≡_, refl}
 use mathlib.Core.Logic.{_≢_}
 use Prim.Native.Nat.{ℕ, zero, suc, _+_, _-_, _≤_, _<_}
 use native.Mathlib.Omega.{arith}
-use lib.Dec.{leb, eqb}
-use borrow.Author.Tests.{le-leb, lt-leb, eq-eqb, ne-eqb}
-use Rattle.net.specs.declared.Symbol.{Symbol}
+use borrow.Author.Tests.{le-leb, lt-leb, ne-eqb}
 use Rattle.net.specs.declared.Symbol.the-variants.{Constant, Letter, Vertex, Unknown}
-use Rattle.net.specs.declared.Condition.{Condition}
 use Rattle.net.specs.declared.Condition.the-variants.{Open, NClosed, PClosed}
 use Rattle.net.specs.Limits.{mostVertices, mostLetters, letterBase, vertexBase}
 use Rattle.net.specs.Symbols.{decode}

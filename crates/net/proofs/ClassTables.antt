@@ -1,4 +1,4 @@
--- Labels of classes as the code's tables have them: one edge more, tables longer than the vertices in use, and edges from tables.
+-- Labels of classes as the code's tables have them: one edge more, and tables longer than the vertices in use.
 use mathlib.Core.Path.{_≡_, refl, ap, _∙_}
 use mathlib.Core.Bool.{Bool, true, false}
 use mathlib.Core.List.{List, _∷_}
@@ -27,19 +27,6 @@ module _ (m : ℕ) (u v : ℕ → ℕ) (on : ℕ → Bool) where
   unfolding classes merge
   length-classes zero = length-table m (λ x. x)
   length-classes (suc n) = by-test (on n) (λ e. rw (e, length-map) (length-classes n)) (λ e. rw e (length-classes n))
-
--- edges that agree below n
-pub classes-ext : (m : ℕ) (u v u′ v′ : ℕ → ℕ) (on on′ : ℕ → Bool) (n : ℕ) → ((i : ℕ) → i < n → u i ≡ u′ i) → ((i : ℕ) → i < n → v i ≡ v′ i) → ((i : ℕ) → i < n → on i ≡ on′ i)
-    → classes m u v on n ≡ classes m u′ v′ on′ n
-unfolding classes
-classes-ext m u v u′ v′ on on′ zero hu hv ho = refl
-classes-ext m u v u′ v′ on on′ (suc n) hu hv ho =
-    rw (
-      hu n (omega arith),
-      hv n (omega arith),
-      ho n (omega arith),
-      classes-ext m u v u′ v′ on on′ n (λ i l. hu i (omega arith)) (λ i l. hv i (omega arith)) (λ i l. ho i (omega arith)),
-    )
 
 pub take-table : {A : Type 0} (m n : ℕ) (f : ℕ → A) → m ≤ n → take m (table n f) ≡ table m f
 unfolding table

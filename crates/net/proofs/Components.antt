@@ -1,8 +1,8 @@
 -- `sameComponent`, `isSignal` and `signals` compute the components and their signals.
-use mathlib.Core.Path.{_≡_, refl, sym, subst, _∙_}
-use mathlib.Core.Bool.{Bool, true, _&&_, _||_}
-use mathlib.Core.Logic.{_⊎_, inl, inr, ⊎-elim, _↔_, Iff·trans}
-use mathlib.Core.List.{List, List·Memᴰ}
+use mathlib.Core.Path.{_≡_, refl, subst}
+use mathlib.Core.Bool.{Bool, true, _&&_}
+use mathlib.Core.Logic.{_⊎_, ⊎-elim, _↔_}
+use mathlib.Core.List.{List·Memᴰ}
 use Prim.Native.Nat.{ℕ, _<_}
 use lib.Dec.{eqb}
 use borrow.Author.Tests.{eqb-true, eq-eqb}
@@ -10,7 +10,7 @@ use Rattle.net.specs.declared.Edge.{Edge}
 use Rattle.net.specs.declared.Net.{Net}
 use Rattle.net.specs.Symbols.{decode, isVariable, symbolBound}
 use Rattle.net.specs.Graph.{vertexAt, edgeAt, isInput, isStorage}
-use Rattle.net.specs.Walks.{Joins, Link, Walk}
+use Rattle.net.specs.Walks.{Joins, Link}
 use Rattle.net.specs.Classes.{leads}
 use Rattle.net.specs.Component.{everyEdge, SameComponent, Signal, on-edge, on-input, components, sameComponent, carries, gives, isSignal, signals}
 use Rattle.ternary.proofs.Tests.{ands, and-left, and-right, both, or-true, or-left, or-right}

@@ -1,15 +1,14 @@
 -- `connected` finds exactly the connections, and `excitation` has the four cases of document 01.
 use mathlib.Core.Path.{_≡_, refl, ap}
-use mathlib.Core.Bool.{Bool, true, false, cond, not, _&&_, _||_, true≢false, false≢true}
+use mathlib.Core.Bool.{Bool, true, false, not, _&&_}
 use mathlib.Core.Logic.{_⊎_, ⊎-elim, _↔_, _≢_, Iff·trans, Iff·and}
 use Prim.Native.Nat.{ℕ, _<_}
 use lib.ListN.{getD}
 use native.Mathlib.Omega.{arith}
-use Rattle.net.specs.declared.Edge.{Edge}
 use Rattle.net.specs.declared.Net.{Net}
 use Rattle.net.specs.declared.Condition.{Condition}
 use Rattle.net.specs.declared.Condition.the-variants.{Open, NClosed, PClosed}
-use Rattle.net.specs.Graph.{edgeAt, isInput, isStorage}
+use Rattle.net.specs.Graph.{edgeAt, isStorage}
 use Rattle.net.specs.declared.Kind.{Kind}
 use Rattle.net.specs.declared.Kind.the-variants.{Any, NType, PType}
 use Rattle.net.specs.State.{admits, condition, usable, conditions, inputOf}

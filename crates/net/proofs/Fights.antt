@@ -1,7 +1,7 @@
 -- A fight is a closed edge between opposite inputs, or a storage vertex connected to both values; `fights` tests for these.
-use mathlib.Core.Path.{_≡_, refl, subst}
+use mathlib.Core.Path.{_≡_, refl}
 use mathlib.Core.Bool.{Bool, true, _&&_, _||_}
-use mathlib.Core.Logic.{_⊎_, inl, inr, ⊎-elim, _↔_, Iff·trans}
+use mathlib.Core.Logic.{_⊎_, inl, inr, ⊎-elim, _↔_}
 use Prim.Native.Nat.{ℕ, suc, _<_}
 use Rattle.net.specs.declared.Edge.{Edge}
 use Rattle.net.specs.declared.Net.{Net}

@@ -1,8 +1,7 @@
 -- Key indices and key vertices are inverse to one another.
-use mathlib.Core.Path.{_≡_, refl, sym, _∙_}
-use mathlib.Core.Bool.{Bool, true, _&&_}
+use mathlib.Core.Path.{_≡_}
+use mathlib.Core.Bool.{true}
 use Prim.Native.Nat.{ℕ, suc, _<_}
-use native.Mathlib.Omega.{arith}
 use Rattle.net.specs.declared.Net.{Net}
 use Rattle.net.specs.Graph.{isStorage, isKey, keyIndex, keys, keyCount, keyVertex}
 use Rattle.ternary.proofs.Tests.{ands}

@@ -1,13 +1,11 @@
 -- Locality: the excitation of a storage vertex depends only on the signals of its component.
-use mathlib.Core.Path.{_≡_, refl, sym, ap, subst, _∙_}
-use mathlib.Core.Bool.{Bool, true, false, _&&_}
+use mathlib.Core.Path.{_≡_, refl, sym}
+use mathlib.Core.Bool.{Bool, true, false}
 use mathlib.Core.Logic.{_⊎_, inl, inr}
 use Prim.Native.Nat.{ℕ}
-use lib.Dec.{eqb}
-use Rattle.net.specs.declared.Edge.{Edge}
 use Rattle.net.specs.declared.Net.{Net}
 use Rattle.net.specs.Symbols.{decode, isVariable}
-use Rattle.net.specs.Graph.{vertexAt, edgeAt, isInput, isStorage}
+use Rattle.net.specs.Graph.{vertexAt, isStorage}
 use Rattle.net.specs.declared.Kind.{Kind}
 use Rattle.net.specs.declared.Kind.the-variants.{Any, NType, PType}
 use Rattle.net.specs.State.{value, condition, usable, inputOf}

@@ -1,7 +1,7 @@
 -- Fights and outputs are local: to one component, or to one edge between two input vertices.
 use Prim.Native.Nat.{ℕ}
-use mathlib.Core.Path.{_≡_, refl, ap, _∙_}
-use mathlib.Core.Bool.{Bool, true, false, _&&_, _||_}
+use mathlib.Core.Path.{_≡_}
+use mathlib.Core.Bool.{true, _&&_}
 use mathlib.Core.Logic.{⊎-elim}
 use Rattle.net.specs.declared.Net.{Net}
 use Rattle.net.specs.declared.Kind.the-variants.{Any}
@@ -9,9 +9,9 @@ use Rattle.net.specs.Graph.{vertexAt, edgeAt, isInput, isStorage, isOutp
 use Rattle.net.specs.State.{value, condition, usable, inputOf}
 use Rattle.net.specs.Excitation.{connected, excitation, edgeFights, vertexFights}
 use Rattle.net.specs.Component.{Agree}
-use Rattle.net.specs.SignalTable.{gather, spreadInput, spreadKeys, excitationAt}
+use Rattle.net.specs.SignalTable.{gather, spreadInput, spreadKeys}
 use Rattle.net.specs.Known.{Known}
-use Rattle.ternary.proofs.Tests.{ands, and-left, and-right, both, by-test, or-true, or-right}
+use Rattle.ternary.proofs.Tests.{and-left, and-right, both, by-test, or-true, or-right}
 use Rattle.net.proofs.Values.{input-of}
 use Rattle.net.proofs.Local.{connected-local, excitation-local}
 use Rattle.net.proofs.SignalTable.{gather-agrees}

@@ -1,8 +1,7 @@
 -- The report's three NAND gates, y1 = (a y2)', y2 = (y1 y3)', y3 = (y2 b)', computed: 8 vertices, 12 edges, 32 states.
-use Prim.Native.Nat.{ℕ}
 use mathlib.Core.Path.{_≡_, refl}
 use mathlib.Core.Bool.{true}
-use mathlib.Core.List.{List, [], _∷_, map}
+use mathlib.Core.List.{[], _∷_, map}
 use mathlib.Core.Option.{none}
 use Rattle.net.specs.declared.Net.{Net}
 use Rattle.net.specs.Excitation.{excitation}

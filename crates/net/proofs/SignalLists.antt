@@ -1,18 +1,13 @@
 -- The vertices of one component have one list of signals, and the list rises: letters in order, then key nodes in order.
 use Prim.Native.Nat.{ℕ, _+_, _<_, _≤_}
-use mathlib.Core.Path.{_≡_, refl, sym, ap, _∙_}
-use mathlib.Core.Bool.{Bool, true, _&&_}
-use mathlib.Core.Logic.{_↔_}
-use mathlib.Core.List.{List·Memᴰ}
+use mathlib.Core.Path.{_≡_, sym, _∙_}
 use native.Mathlib.Omega.{arith}
-use lib.ListN.{length, getD}
+use lib.ListN.{getD}
 use borrow.Author.Tests.{eqb-true, eq-eqb}
 use Rattle.net.specs.declared.Net.{Net}
-use Rattle.net.specs.declared.Symbol.{Symbol}
-use Rattle.net.specs.declared.Symbol.the-variants.{Constant, Letter, Vertex, Unknown}
+use Rattle.net.specs.declared.Symbol.the-variants.{Letter, Vertex}
 use Rattle.net.specs.Limits.{letterBase, vertexBase, mostLetters}
 use Rattle.net.specs.Symbols.{decode, symbolBound}
-use Rattle.net.specs.Graph.{isStorage}
 use Rattle.net.specs.Classes.{sameLabel}
 use Rattle.net.specs.Component.{SameComponent, Signal, on-edge, on-input, components, sameComponent, isSignal, signals}
 use Rattle.net.specs.SignalTable.{signalCount}

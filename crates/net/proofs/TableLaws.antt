@@ -1,25 +1,25 @@
 -- The code's tables entry by entry.
-use mathlib.Core.Path.{_≡_, refl, ap, _∙_}
+use mathlib.Core.Path.{_≡_, refl}
 use mathlib.Core.Bool.{Bool, true, false, _&&_, _||_}
 use mathlib.Core.List.{List}
 use mathlib.Core.Logic.{_≢_}
 use Prim.Native.Nat.{ℕ, suc, _+_, _-_, _<_, _≤_}
 use native.Mathlib.Omega.{arith}
-use lib.Dec.{eqb, ltb}
+use lib.Dec.{eqb}
 use lib.ListN.{getD, take}
-use borrow.Author.Tests.{lt-ltb, le-ltb, le-leb, eq-eqb, ne-eqb, eqb-false}
+use borrow.Author.Tests.{lt-ltb, le-leb, eq-eqb, ne-eqb, eqb-false}
 use Rattle.ternary.specs.Bits.{digit}
 use Rattle.ternary.proofs.BitLaws.{eqb-digit}
 use Rattle.ternary.proofs.ListLaws.{getD-table}
 use Rattle.ternary.proofs.Tests.{fails, by-test}
 use Rattle.net.specs.declared.Net.{Net}
-use Rattle.net.specs.Limits.{mostVertices, mostEdges}
+use Rattle.net.specs.Limits.{mostVertices}
 use Rattle.net.specs.Classes.{classes, inner, labels}
 use Rattle.net.specs.Component.{everyEdge, components}
-use Rattle.net.specs.Tables.{Joinable, Readable, storageFlags, firstEnds, secondEnds, innerFlags, componentLabels}
+use Rattle.net.specs.Tables.{Readable, Prepared, storageFlags, componentLabels}
 use Rattle.net.specs.Graph.{noVertex, vertexAt, edgeAt, hasRole, isStorage}
 use Rattle.net.proofs.Classes.{storage-range, inner-end1, inner-end2}
-use Rattle.net.proofs.ClassTables.{classes-ext, take-classes}
+use Rattle.net.proofs.ClassTables.{take-classes}
 
 module _ (N : Net) where
   -- number 0 and the numbers above the count are no vertices
@@ -33,6 +33,10 @@ module _ (N : Net) where
 
   pub no-storage-above : (v : ℕ) → N .«vertex_count» < v → isStorage N v ≡ false
   no-storage-above v h = fails (isStorage N v) (λ e. omega (arith, storage-range N v e))
+
+  -- a storage vertex has a row in a table of vertices
+  pub storage-row : Readable N → (y : ℕ) → isStorage N y ≡ true → y ≤ mostVertices
+  storage-row readable y s = omega (arith, storage-range N y s, readable .vertices)
 
   -- the vertex at index i, which is vertex i + 1
   pub role-at : (i r : ℕ) → i < N .«vertex_count» → hasRole N (i + 1) r ≡ eqb ((getD (N .vertices) i noVertex) .role) r
@@ -60,55 +64,13 @@ module _ (N : Net) (s : List ℕ) (flags : s ≡ storageFlags N) where
   pub storage-test : (v : ℕ) → v ≤ mostVertices → eqb (getD s v 0) 1 ≡ isStorage N v
   storage-test v h = rw (storage-read v h) (eqb-digit (isStorage N v))
 
-  -- the flag of edge i
-  pub inner-flag : (i : ℕ) → i < N .«edge_count» → (edgeAt N i) .end1 ≤ mostVertices → (edgeAt N i) .end2 ≤ mostVertices
-      → digit (eqb (getD s ((edgeAt N i) .end1) 0) 1 && eqb (getD s ((edgeAt N i) .end2) 0) 1) ≡ digit (ltb i (N .«edge_count») && inner N (edgeAt N i))
+  -- edge i joins storage vertices, told by their flags
+  pub inner-read : (i : ℕ) → (edgeAt N i) .end1 ≤ mostVertices → (edgeAt N i) .end2 ≤ mostVertices
+      → (r : ℕ) → r ≡ digit (eqb (getD s ((edgeAt N i) .end1) 0) 1 && eqb (getD s ((edgeAt N i) .end2) 0) 1) → eqb r 1 ≡ inner N (edgeAt N i)
   unfolding inner
-  inner-flag i h a b = rw (lt-ltb i (N .«edge_count») h, storage-test _ a, storage-test _ b)
-
-pub no-inner-above : (N : Net) (i : ℕ) → N .«edge_count» ≤ i → 0 ≡ digit (ltb i (N .«edge_count») && inner N (edgeAt N i))
-no-inner-above N i h = rw (le-ltb i (N .«edge_count») h)
+  inner-read i a b r e = rw (e, storage-test _ a, storage-test _ b) (eqb-digit _)
 
 module _ (N : Net) where
-  pub first-read : (i : ℕ) → i < mostEdges → getD (firstEnds N) i 0 ≡ (edgeAt N i) .end1
-  unfolding firstEnds
-  first-read i h = getD-table mostEdges (λ k. (edgeAt N k) .end1) i 0 h
-
-  pub second-read : (i : ℕ) → i < mostEdges → getD (secondEnds N) i 0 ≡ (edgeAt N i) .end2
-  unfolding secondEnds
-  second-read i h = getD-table mostEdges (λ k. (edgeAt N k) .end2) i 0 h
-
-  pub inner-test : (i : ℕ) → i < N .«edge_count» → i < mostEdges → eqb (getD (innerFlags N) i 0) 1 ≡ inner N (edgeAt N i)
-  unfolding innerFlags
-  inner-test i l h =
-      ap (λ (x : ℕ). eqb x 1) (getD-table mostEdges (λ k. digit (ltb k (N .«edge_count») && inner N (edgeAt N k))) i 0 h)
-      ∙ eqb-digit (ltb i (N .«edge_count») && inner N (edgeAt N i))
-      ∙ rw (lt-ltb i (N .«edge_count») l) refl
-
-  -- the walk over the tables of ends is the walk over the edges
-  pub edge-classes : (flags : List ℕ) (test : ℕ → Bool) (n : ℕ) → n ≤ mostEdges → ((i : ℕ) → i < n → eqb (getD flags i 0) 1 ≡ test i)
-      → classes (suc mostVertices) (λ i. getD (firstEnds N) i 0) (λ i. getD (secondEnds N) i 0) (λ i. eqb (getD flags i 0) 1) n
-      ≡ classes (suc mostVertices) (λ i. (edgeAt N i) .end1) (λ i. (edgeAt N i) .end2) test n
-  edge-classes flags test n h e =
-      classes-ext (suc mostVertices) _ _ _ _ _ _ n (λ i l. first-read i (omega arith)) (λ i l. second-read i (omega arith)) e
-
-  module _ (readable : Readable N) where
-    -- the tables of a net's edges are fit for the walk
-    pub joinable : Joinable (firstEnds N) (secondEnds N) (innerFlags N) (N .«edge_count»)
-    joinable =
-        record {
-          few = readable .edges;
-          first-end = λ i l _. rw (first-read i (omega (arith, readable .edges))) (readable .first-end i l);
-          second-end = λ i l _. rw (second-read i (omega (arith, readable .edges))) (readable .second-end i l);
-        }
-
-    -- and the walk over them labels the components
-    pub walk-labels : classes (suc mostVertices) (λ i. getD (firstEnds N) i 0) (λ i. getD (secondEnds N) i 0) (λ i. eqb (getD (innerFlags N) i 0) 1) (N .«edge_count») ≡ componentLabels N
-    unfolding componentLabels
-    walk-labels =
-        edge-classes (innerFlags N) (λ i. inner N (edgeAt N i)) (N .«edge_count») (readable .edges)
-        (λ i l. inner-test i l (omega (arith, readable .edges)))
-
   -- the walk over the edges that pass a test labels the vertices in use as `labels` says
   pub labels-in-use : (on : ℕ → Bool) (n : ℕ) → N .«vertex_count» ≤ mostVertices
       → take (suc (N .«vertex_count»)) (classes (suc mostVertices) (λ i. (edgeAt N i) .end1) (λ i. (edgeAt N i) .end2) (λ i. on i && inner N (edgeAt N i)) n) ≡ labels N on n
@@ -121,3 +83,7 @@ module _ (N : Net) where
   pub component-labels-in-use : N .«vertex_count» ≤ mostVertices → take (suc (N .«vertex_count»)) (componentLabels N) ≡ components N
   unfolding componentLabels
   component-labels-in-use = labels-in-use everyEdge (N .«edge_count»)
+
+  -- the tables that the code makes of a net
+  pub prepared : {storage labels : List ℕ} → Readable N → storage ≡ storageFlags N → labels ≡ componentLabels N → Prepared N storage labels
+  prepared r s l = record { readable = r; flags = s; labelled = rw l (component-labels-in-use (r .vertices)) }

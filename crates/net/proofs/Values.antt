@@ -1,8 +1,8 @@
 -- The value of a symbol is 0 or 1, and only a variable's depends on the state.
 use mathlib.Core.Path.{_≡_, refl}
-use mathlib.Core.Bool.{Bool, true, false, cond, _&&_, true≢false, false≢true}
+use mathlib.Core.Bool.{true, false, true≢false, false≢true}
 use mathlib.Core.Logic.{_⊎_, inl, inr}
-use Prim.Native.Nat.{ℕ, zero, suc, _+_, _-_, _<_, _≤_}
+use Prim.Native.Nat.{ℕ, _+_, _-_, _<_, _≤_}
 use native.Mathlib.Omega.{arith}
 use lib.Dec.{leb, lit<}
 use borrow.Author.Tests.{leb-true, eq-eqb}
@@ -11,7 +11,7 @@ use Rattle.net.specs.declared.Symbol.{Symbol}
 use Rattle.net.specs.declared.Symbol.the-variants.{Constant, Letter, Vertex, Unknown}
 use Rattle.net.specs.Limits.{mostVertices, mostLetters, letterBase, vertexBase}
 use Rattle.net.specs.Symbols.{within, decode, isVariable, symbolBound}
-use Rattle.net.specs.Graph.{vertexAt, isInput, keyIndex}
+use Rattle.net.specs.Graph.{vertexAt, isInput}
 use Rattle.net.specs.State.{symbolValue, value, inputOf}
 use Rattle.ternary.proofs.Tests.{ands, both, cond-by}
 use Rattle.ternary.proofs.BitLaws.{bit-lt, binary-iff}

@@ -11,7 +11,6 @@ use Rattle.ternary.specs.Bits.{bit}
 use Rattle.ternary.specs.Run.{isStable}
 use Rattle.net.specs.declared.Net.{Net}
 use Rattle.net.specs.Graph.{isKey, isOutput, keyCount, keyIndex, keyVertex}
-use Rattle.net.specs.Walks.{Fight}
 use Rattle.net.specs.Excitation.{excitation, fights}
 use Rattle.net.specs.Network.{network, Clean, Stable, stable}
 use Rattle.net.specs.WellFormed.{C1, C2, C3, everyState, breaksC1, placeC1, testC2, breaksC3, placeC3}

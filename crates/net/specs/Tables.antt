@@ -1,10 +1,9 @@
--- What the code keeps of a net in arrays of bytes: an entry for each edge, or for each vertex number from 0.
+-- What the code keeps of a net in arrays of bytes: an entry for each vertex number from 0, or for each symbol.
 use Prim.Native.Nat.{ℕ, suc, _≤_, _<_}
-use mathlib.Core.Bool.{Bool, cond, _&&_}
+use mathlib.Core.Bool.{Bool, cond}
 use mathlib.Core.List.{List}
 use mathlib.Core.Path.{_≡_}
-use lib.Dec.{ltb}
-use lib.ListN.{getD, set, take}
+use lib.ListN.{set, take}
 use Rattle.ternary.specs.Bits.{digit}
 use Rattle.ternary.specs.Lists.{table}
 use Rattle.net.specs.declared.Net.{Net}
@@ -16,12 +15,6 @@ use Rattle.net.specs.Symbols.{decode, isVariable, symbolBound}
 use Rattle.net.specs.Classes.{classes, inner}
 use Rattle.net.specs.Component.{components, isSignal}
 
--- the first n edges fit a table of edges, and those that count have their ends in a table of vertices
-pub record Joinable (first second on : List ℕ) (n : ℕ) : Type 0 where
-  pub few : n ≤ mostEdges
-  pub first-end : (i : ℕ) → i < n → getD on i 0 ≡ 1 → getD first i 0 ≤ mostVertices
-  pub second-end : (i : ℕ) → i < n → getD on i 0 ≡ 1 → getD second i 0 ≤ mostVertices
-
 -- the record fits its arrays, and the edges in use have their ends in a table of vertices
 pub record Readable (N : Net) : Type 0 where
   pub vertices : N .«vertex_count» ≤ mostVertices
@@ -32,17 +25,6 @@ pub record Readable (N : Net) : Type 0 where
 -- 1 at each storage vertex
 unfoldable pub storageFlags : Net → List ℕ
 storageFlags N = table (suc mostVertices) (λ v. digit (isStorage N v))
-
--- the ends of each edge
-unfoldable pub firstEnds : Net → List ℕ
-firstEnds N = table mostEdges (λ i. (edgeAt N i) .end1)
-
-unfoldable pub secondEnds : Net → List ℕ
-secondEnds N = table mostEdges (λ i. (edgeAt N i) .end2)
-
--- 1 at each edge in use that joins storage vertices
-unfoldable pub innerFlags : Net → List ℕ
-innerFlags N = table mostEdges (λ i. digit (ltb i (N .«edge_count») && inner N (edgeAt N i)))
 
 -- the components' labels; those of the vertices in use come first, as `components` has them
 unfoldable pub componentLabels : Net → List ℕ

@@ -1,6 +1,7 @@
 //! The record of a net, the report's CMOS graph: its vertices, its edges and how many letters it has.
 //! What a net means stands in specs/, the laws of it in proofs/. The functions over it are in the crates `symbols`, `graph` and `signals`.
 
+use ternary::Signal;
 ghost use mathlib.Core.Path.{_≡_};
 ghost use Rattle.net.specs.Limits.{limits};
 
@@ -67,6 +68,14 @@ impl Net {
 
     // A table with an entry for each symbol number, in a row for each vertex number.
     pub const SYMBOL_PLACES: usize = Net::VERTEX_PLACES * Symbol::BOUND;
+
+    // The ternary assignments of the most signals, and a row with an entry for each of them for each key node.
+    pub const TERNARY_ASSIGNMENTS: usize = 6561;
+
+    pub const TERNARY_TABLES: usize = Net::MOST_KEY_NODES * Net::TERNARY_ASSIGNMENTS;
+
+    // For each variable and each of its signals a row with an entry for each key node.
+    pub const ADDITIONS: usize = Net::VARIABLES * Signal::KINDS * Net::MOST_KEY_NODES;
 }
 
 // A symbol by its number. Letters and vertices are numbered from 1.

@@ -4,7 +4,6 @@ ghost use mathlib.Core.Path.{_≡_};
 ghost use Prim.Native.Nat.{_+_, _≤_, _<_};
 ghost use Rattle.net.specs.Limits.{mostVertices, mostEdges};
 ghost use Rattle.sheet.specs.Reading.{vertexOf, edgeOf, vertexLineOk, edgeLineOk, addLine, addedOf};
-use crate::rules;
 use net::Edge;
 use net::Net;
 use net::Vertex;

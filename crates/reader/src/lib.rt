@@ -1,9 +1,141 @@
-//! The reader in code, from the bottom up: the values that a line may have, the lines below the header, the rows over the graph, the record
-//! test, the reader. Types, definitions and laws are those of the crate `sheet`.
+//! Reading a sheet: the header, then a line for each vertex and each edge, then the rows over the graph.
+//! Types, definitions and laws are those of the crate `sheet`.
 
 pub mod body;
-pub mod reader;
-pub mod record;
-pub mod rows;
-pub mod rules;
-pub mod tests;
+
+ghost use mathlib.Core.Path.{_≡_};
+ghost use Prim.Native.Nat.{_+_, _*_, _≤_};
+ghost use lib.ListN.{length, drop};
+ghost use Rattle.sheet.specs.Limits.{lineWidth};
+ghost use Rattle.sheet.specs.Rows.{answer, firstRow};
+ghost use Rattle.sheet.specs.Graph.{graphRows};
+ghost use Rattle.sheet.specs.Checked.{Checked, SoFar};
+ghost use Rattle.sheet.specs.Reading.{conclude, readLines, sizeOk, readSheet};
+ghost use Rattle.sheet.specs.Record.{startNet, refused};
+ghost use Rattle.sheet.specs.Rules.{headerOk};
+use net::Edge;
+use net::Net;
+use net::Vertex;
+use sheet::Answer;
+use sheet::Line;
+use sheet::LineRead;
+use sheet::Reading;
+use sheet::Sheet;
+
+// The edition that this reader knows.
+const EDITION: u16 = 1;
+
+// The record of a header before any vertex or edge is read: all places zero.
+fn start_net(vertices: u8, edges: u16, letters: u8) -> Net
+    ensures { λ r. ⌜ r ≡ startNet vertices edges letters ⌝ }
+{
+    let vertex = Vertex { role: 0, label: 0 };
+    let edge = Edge {
+        end1: 0,
+        end2: 0,
+        form: 0,
+        symbol: 0,
+    };
+    Net {
+        vertices: [vertex; Net::MOST_VERTICES],
+        edges: [edge; Net::MOST_EDGES],
+        vertex_count: vertices,
+        edge_count: edges,
+        letter_count: letters,
+    }
+}
+
+// Is the length of a sheet allowed?
+fn size_ok(size: usize) -> bool
+    ensures { λ r. ⌜ r ≡ sizeOk size ⌝ }
+{
+    if size == 0 {
+        return false;
+    }
+    if size % Sheet::LINE_WIDTH != 0 {
+        return false;
+    }
+    size <= Sheet::MOST_BYTES
+}
+
+// A header is 1, vertices, edges, letters and the edition.
+fn header_ok(h: Line) -> bool
+    ensures { λ r. ⌜ r ≡ headerOk h ⌝ }
+{
+    if h.kind != Line::HEADER {
+        return false;
+    }
+    if h.fifth != EDITION {
+        return false;
+    }
+    rules::counts_ok(h.second as usize, h.third as usize, h.fourth as usize)
+}
+
+// A refusal: its number and place, and the empty record.
+fn refusal(number: u8, place: u16) -> Reading
+    ensures { λ r. ⌜ r ≡ refused (answer number place) ⌝ }
+{
+    let empty = start_net(0, 0, 0);
+    Reading {
+        answer: Answer { number, place },
+        net: empty,
+    }
+}
+
+// What the rows over the graph make of the record.
+fn concluded(net: Net) -> Reading
+    requires { ⌜ Checked net ⌝ }
+    ensures { λ r. ⌜ r ≡ conclude net (firstRow (graphRows net)) ⌝ }
+{
+    let answer = graph_rows::graph_answer(net);
+    if answer.number != 0 {
+        return refusal(answer.number, answer.place);
+    }
+    Reading { answer, net }
+}
+
+// The lines below the header; reading stops at the first that is refused.
+fn read_lines(sheet: &[u8], start: Net, count: usize) -> Reading
+    requires { ⌜ SoFar start 0 × (count ≡ start .«vertex_count» + start .«edge_count») × (lineWidth * (1 + count) ≤ length (now sheet)) ⌝ }
+    ensures { λ r. ⌜ r ≡ readLines count (drop lineWidth (now (sheet .entry))) 0 start ⌝ }
+{
+    let mut net = start;
+    let mut at = Sheet::LINE_WIDTH;
+    let mut j: usize = 0;
+    while j < count {
+        let end = at + Sheet::LINE_WIDTH;
+        let LineRead::Five(line) = lines::lines::read_line(&sheet[at..end]) else {
+            return refusal(Answer::BAD_LINE, (j + 2) as u16);
+        };
+        let added = body::add_line(net, j, line);
+        if added.number != 0 {
+            return refusal(added.number, (j + 2) as u16);
+        }
+        net = added.net;
+        at = end;
+        j += 1;
+    }
+    concluded(net)
+}
+
+// A sheet's record, or the number and place of its first fault.
+pub fn read(sheet: &[u8]) -> Reading
+    ensures { λ r. ⌜ r ≡ readSheet (now (sheet .entry)) ⌝ }
+{
+    let size = sheet.len();
+    if !size_ok(size) {
+        return refusal(Answer::BAD_LENGTH, 0);
+    }
+    let LineRead::Five(header) = lines::lines::read_line(&sheet[0..Sheet::LINE_WIDTH]) else {
+        return refusal(Answer::BAD_LINE, 1);
+    };
+    if !header_ok(header) {
+        return refusal(Answer::BAD_HEADER, 1);
+    }
+    let count = header.second as usize + header.third as usize;
+    if size / Sheet::LINE_WIDTH != 1 + count {
+        return refusal(Answer::BAD_LINE_COUNT, 0);
+    }
+    let start = start_net(header.second as u8, header.third, header.fourth as u8);
+    read_lines(sheet, start, count)
+}

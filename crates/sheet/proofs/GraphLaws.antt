@@ -1,10 +1,10 @@
 -- What the rows over the graph say: partners (21), key nodes (22) and signals (23), each where it is silent and where it gives a place.
 use Prim.Native.Nat.{ℕ, suc, _+_, _-_, _≤_, _<_}
 use native.Mathlib.Omega.{arith}
-use mathlib.Core.Path.{_≡_, refl, ap}
+use mathlib.Core.Path.{_≡_, ap}
 use mathlib.Core.Logic.{inl, inr, ⊎-elim, _↔_}
-use mathlib.Core.Bool.{Bool, true, false, not, _&&_, true≢false}
-use mathlib.Core.Option.{Option, none, some, Option·map, map-eq-none-iff, map-eq-some-iff}
+use mathlib.Core.Bool.{Bool, true, false, not, _&&_}
+use mathlib.Core.Option.{none, some, Option·map, map-eq-none-iff, map-eq-some-iff}
 use lib.Dec.{eqb}
 use borrow.Author.Tests.{leb-true, le-leb, eqb-true, eq-eqb, ltb-true, lt-ltb, not-true, not-false}
 use Rattle.net.specs.declared.Edge.{Edge}
@@ -24,6 +24,7 @@ use Rattle.sheet.specs.Rows.NoRow.{end, next}
 use Rattle.sheet.specs.Rules.{primed}
 use Rattle.sheet.specs.Graph.{isPartner, lacksPartner, edgePlace, partnerPlace, keyPlace, overSignals, signalPlace, graphRows}
 use Rattle.sheet.specs.Search.{foundOf}
+use Rattle.sheet.proofs.SearchLaws.{found-some, found-none}
 use Rattle.sheet.proofs.Places.{get-none, get-some}
 use Rattle.sheet.proofs.RowLaws.{first-none}
 
@@ -205,14 +206,6 @@ module _ (N : Net) where
   pub signal-vertex : (place : ℕ) → signalPlace N ≡ some place → VertexPlace place
   signal-vertex place e = storage-place place (signal-some place .0 e .0 .storage)
 
-found-some : (o : Option ℕ) (p : ℕ) → foundOf o ≡ At p → o ≡ some p
-found-some none p e = absurd (true≢false (cc))
-found-some (some q) p e = ap some (cc)
-
-found-none : (o : Option ℕ) → foundOf o ≡ Nothing → o ≡ none
-found-none none e = refl
-found-none (some q) e = absurd (true≢false (cc))
-
 -- ---- what the code answers for a row's place, where its loop has found one and where it has found none
 
 pub partner-found : (N : Net) (i : ℕ) → leastBelow (N .«edge_count») (lacksPartner N) ≡ some i → At (N .«vertex_count» + 2 + i) ≡ foundOf (partnerPlace N)
@@ -228,16 +221,16 @@ partner-missing N e = rw e
 module _ (N : Net) where
   pub answer-21 : (p : ℕ) → foundOf (partnerPlace N) ≡ At p → answer 21 p ≡ answered (firstRow (graphRows N))
   unfolding graphRows firstRow
-  answer-21 p e = rw (found-some (partnerPlace N) p e)
+  answer-21 p e = rw (found-some (partnerPlace N) e)
 
   pub answer-22 : (p : ℕ) → foundOf (partnerPlace N) ≡ Nothing → foundOf (keyPlace N) ≡ At p → answer 22 p ≡ answered (firstRow (graphRows N))
   unfolding graphRows firstRow
-  answer-22 p e f = rw (found-none (partnerPlace N) e, found-some (keyPlace N) p f)
+  answer-22 p e f = rw (found-none (partnerPlace N) e, found-some (keyPlace N) f)
 
   pub answer-23 : (p : ℕ) → foundOf (partnerPlace N) ≡ Nothing → foundOf (keyPlace N) ≡ Nothing → foundOf (signalPlace N) ≡ At p
       → answer 23 p ≡ answered (firstRow (graphRows N))
   unfolding graphRows firstRow
-  answer-23 p e f g = rw (found-none (partnerPlace N) e, found-none (keyPlace N) f, found-some (signalPlace N) p g)
+  answer-23 p e f g = rw (found-none (partnerPlace N) e, found-none (keyPlace N) f, found-some (signalPlace N) g)
 
   pub answer-none : foundOf (partnerPlace N) ≡ Nothing → foundOf (keyPlace N) ≡ Nothing → foundOf (signalPlace N) ≡ Nothing
       → answer 0 0 ≡ answered (firstRow (graphRows N))

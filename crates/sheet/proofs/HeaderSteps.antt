@@ -1,12 +1,11 @@
 -- What the reader knows of a sheet from its length and its header.
 use Prim.Native.Nat.{ℕ, _+_, _*_, _/_, _%_, _≤_}
 use native.Mathlib.Omega.{arith}
-use mathlib.Core.Path.{_≡_, refl, sym}
+use mathlib.Core.Path.{_≡_}
 use mathlib.Core.Bool.{true, false}
 use mathlib.Core.List.{List}
 use mathlib.Core.Logic.{_≢_}
-use mathlib.Core.Option.{none, some}
-use lib.Dec.{eqb}
+use mathlib.Core.Option.{none}
 use lib.ListN.{length, take, drop}
 use borrow.Author.Tests.{leb-true, eqb-true, eq-eqb, ne-eqb}
 use Rattle.ternary.proofs.Tests.{ands}
@@ -16,7 +15,7 @@ use Rattle.sheet.specs.Limits.{lineWidth}
 use Rattle.sheet.specs.Line.{readLine, lineAnswer}
 use Rattle.sheet.specs.Rows.{answer}
 use Rattle.sheet.specs.Record.{startNet, refused}
-use Rattle.sheet.specs.Rules.{countsOk, headerOk}
+use Rattle.sheet.specs.Rules.{headerOk}
 use Rattle.sheet.specs.Checked.{SoFar}
 use Rattle.sheet.specs.Reading.{readLines, sizeOk, readHeader, readSheet}
 use Rattle.sheet.proofs.RuleLaws.{Counts, counts-facts}

@@ -5,7 +5,7 @@ use mathlib.Core.Path.{_≡_, refl, sym, ap, _∙_}
 use mathlib.Core.Bool.{Bool, true, false}
 use mathlib.Core.List.{List}
 use lib.Dec.{eqb}
-use lib.ListN.{length, getD}
+use lib.ListN.{getD}
 use Rattle.ternary.specs.Lists.{countBelow}
 use Rattle.ternary.specs.Bits.{digit}
 use Rattle.ternary.proofs.BitLaws.{eqb-digit}

@@ -4,6 +4,7 @@ pub mod FieldSteps
 pub mod LineLaws
 pub mod LineSteps
 pub mod RowLaws
+pub mod SearchLaws
 pub mod RuleLaws
 pub mod RuleSteps
 pub mod Places

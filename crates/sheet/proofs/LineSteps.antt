@@ -22,11 +22,11 @@ use Rattle.sheet.proofs.LineLaws.{FullLine, line-bytes}
 
 -- ---- the five numbers of a line
 
-number-of : (o : Option ℕ) (n : ℕ) → fieldAnswer o ≡ Number n → o ≡ some n
+pub number-of : (o : Option ℕ) (n : ℕ) → fieldAnswer o ≡ Number n → o ≡ some n
 number-of none n e = absurd (true≢false (cc))
 number-of (some m) n e = cc
 
-refused-of : (o : Option ℕ) → fieldAnswer o ≡ Refused → o ≡ none
+pub refused-of : (o : Option ℕ) → fieldAnswer o ≡ Refused → o ≡ none
 refused-of none e = refl
 refused-of (some m) e = absurd (true≢false (cc))
 

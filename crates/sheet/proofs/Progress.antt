@@ -1,5 +1,5 @@
 -- While lines are added, the record so far holds only allowed values; when all are added it is checked.
-use Prim.Native.Nat.{ℕ, suc, _+_, _-_, _≤_, _<_}
+use Prim.Native.Nat.{ℕ, _+_, _-_, _≤_, _<_}
 use native.Mathlib.Numerals.{add-one}
 use native.Mathlib.Omega.{arith}
 use mathlib.Core.Path.{_≡_, refl, sym, ap, subst, _∙_}
@@ -21,7 +21,7 @@ use Rattle.sheet.specs.declared.Line.{Line}
 use Rattle.sheet.specs.Record.{startNet}
 use Rattle.sheet.specs.Rules.{countsOk, vertexOk, symbolOk, edgeOk}
 use Rattle.sheet.specs.Checked.{Checked, SoFar}
-use Rattle.sheet.specs.Reading.{Step, vertexOf, edgeOf, withVertices, withEdges, vertexLineOk, edgeLineOk, addLine}
+use Rattle.sheet.specs.Reading.{vertexOf, edgeOf, withVertices, withEdges, vertexLineOk, edgeLineOk, addLine}
 use Rattle.sheet.specs.Reading.Step.{next, stop}
 use Rattle.sheet.proofs.RuleLaws.{counts-facts}
 

@@ -1,5 +1,5 @@
 -- What the reader's loop knows of a line from the answers of the functions that it calls.
-use Prim.Native.Nat.{ℕ, _+_, _-_, _≤_}
+use Prim.Native.Nat.{ℕ, _+_, _-_}
 use native.Mathlib.Omega.{arith}
 use mathlib.Core.Path.{_≡_, refl, sym, ap, _∙_}
 use mathlib.Core.Bool.{true, true≢false}
@@ -13,12 +13,11 @@ use Rattle.ternary.proofs.Tests.{cond-by}
 use Rattle.sheet.specs.declared.Added.{Added}
 use Rattle.sheet.specs.declared.Answer.{Answer}
 use Rattle.sheet.specs.declared.Line.{Line}
-use Rattle.sheet.specs.declared.LineRead.{LineRead}
 use Rattle.sheet.specs.declared.LineRead.the-variants.{Five, Refused}
 use Rattle.sheet.specs.Limits.{lineWidth}
 use Rattle.sheet.specs.Line.{readLine, lineAnswer}
 use Rattle.sheet.specs.Rows.{firstRow, answered}
-use Rattle.sheet.specs.Record.{refused, accepted}
+use Rattle.sheet.specs.Record.{refused}
 use Rattle.sheet.specs.Graph.{graphRows}
 use Rattle.sheet.specs.Reading.{Step, vertexLineOk, edgeLineOk, addLine, addedOf, stepLine, conclude}
 use Rattle.sheet.specs.Reading.Step.{next, stop}

@@ -1,5 +1,6 @@
 //! The sheet: its lines, what reading one answers, and the record that an accepted sheet gives.
-//! What a sheet means stands in specs/, the laws of it in proofs/. The functions over it are in the crates `lines` and `reader`.
+//! What a sheet means stands in specs/, the laws of it in proofs/. The functions over it are in the crates `lines`, `rules`,
+//! `graph_rows`, `record` and `reader`.
 
 ghost use mathlib.Core.Path.{_≡_};
 ghost use Rattle.sheet.specs.Limits.{widths};
@@ -99,6 +100,12 @@ impl Answer {
     pub const BAD_INPUT_STATE: u8 = 42;
 
     pub const BAD_KEY_STATE: u8 = 43;
+    // Settling: the start is not stable, a buffer is too short, a line is no job line.
+    pub const UNSTABLE_START: u8 = 44;
+
+    pub const SHORT_BUFFER: u8 = 45;
+
+    pub const NO_JOB: u8 = 46;
     // The sheet has no full line of the number asked for.
     pub const NO_LINE: u8 = 47;
 

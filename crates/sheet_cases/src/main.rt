@@ -3,32 +3,24 @@
 
 ghost use Prim.Native.Nat.{_≤_, _<_};
 ghost use lib.ListN.{length};
+use cases::columns;
+use cases::number_at;
+use cases::part;
 use libc::STDIN_FILENO;
 use libc::STDOUT_FILENO;
-use lines::fields;
 use lines::jobs;
-use reader::record;
-use sheet::Field;
 use sheet::JobLine;
 use sheet::Sheet;
 
 // A number in four columns.
 fn print_column(n: u64) {
-    if n < 1000 {
-        io::write_all(STDOUT_FILENO, b" ");
-    }
-    if n < 100 {
-        io::write_all(STDOUT_FILENO, b" ");
-    }
-    if n < 10 {
-        io::write_all(STDOUT_FILENO, b" ");
-    }
-    io::print_decimal(STDOUT_FILENO, n);
+    let text = columns(n);
+    io::write_all(STDOUT_FILENO, &text);
 }
 
 // A sheet: number, place, and whether the record is one.
 fn print_reading(sheet: &[u8]) {
-    let reading = reader::reader::read(sheet);
+    let reading = reader::read(sheet);
     let answer = reading.answer;
     let net = reading.net;
     print_column(answer.number as u64);
@@ -60,37 +52,6 @@ fn print_job(bytes: &[u8]) {
     }
 }
 
-// The number in four columns at a place of the input; 0 where there is none.
-fn number_at(cases: &[u8], at: usize) -> usize
-    ensures { λ r. ⌜ r ≤ 65535 ⌝ }
-{
-    let size = cases.len();
-    if size < Sheet::FIELD_WIDTH {
-        return 0;
-    }
-    if size - Sheet::FIELD_WIDTH < at {
-        return 0;
-    }
-    let end = at + Sheet::FIELD_WIDTH;
-    let Field::Number(n) = fields::read_field(&cases[at..end]) else {
-        return 0;
-    };
-    n as usize
-}
-
-// Some bytes of the input; none where they are not all there.
-fn part(cases: &[u8], at: usize, n: usize) -> &[u8] {
-    let size = cases.len();
-    if size < n {
-        return &cases[0..0];
-    }
-    if size - n < at {
-        return &cases[0..0];
-    }
-    let end = at + n;
-    &cases[at..end]
-}
-
 // An answer by the kind of the case.
 fn print_answer(kind: u8, n: usize, bytes: &[u8]) {
     match kind {
@@ -106,11 +67,11 @@ fn run_case(cases: &[u8], at: usize) -> usize
     ensures { λ r. ⌜ (at < r) × (r ≤ length (now (cases .entry))) ⌝ }
 {
     let size = cases.len();
-    let note_size = number_at(cases, at + 1);
+    let note_size = number_at(cases, at + 1) as usize;
     let note_at = at + 1 + Sheet::FIELD_WIDTH;
     let n_at = note_at + note_size;
-    let n = number_at(cases, n_at);
-    let bytes_size = number_at(cases, n_at + Sheet::FIELD_WIDTH);
+    let n = number_at(cases, n_at) as usize;
+    let bytes_size = number_at(cases, n_at + Sheet::FIELD_WIDTH) as usize;
     let bytes_at = n_at + 2 * Sheet::FIELD_WIDTH;
     print_answer(cases[at], n, part(cases, bytes_at, bytes_size));
     io::write_all(STDOUT_FILENO, b" ");

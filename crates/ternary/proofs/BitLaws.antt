@@ -1,10 +1,10 @@
 -- Laws of bits and of the numbers made of bits. Assumes nothing.
-use Prim.Native.Nat.{ℕ, zero, suc, _+_, _*_, _/_, _%_, _^_, _<_}
+use Prim.Native.Nat.{ℕ, zero, suc, _+_, _*_, _/_, _%_, _^_, _≤_, _<_}
 use mathlib.Core.Path.{_≡_, refl, sym, ap, _∙_}
 use mathlib.Core.Bool.{Bool, true, false, false≢true, _||_}
 use mathlib.Core.Logic.{_↔_, _⊎_, inl, inr, ⊎-elim}
 use native.Mathlib.Omega.{arith}
-use native.Mathlib.Nat.{div-div-eq-div-mul, pow-succ', pow-zero, div-one}
+use native.Mathlib.Nat.{div-div-eq-div-mul, div-eq-of-lt, pow-succ', pow-zero, pow-le-pow-right, div-one}
 use native.Mathlib.Numerals.{add-one}
 use lib.Bits.{bitOr}
 use lib.Dec.{eqb}
@@ -32,6 +32,10 @@ pub bit-shift : (n k : ℕ) → bit n k ≡ n / 2 ^ k % 2
 unfolding bit
 bit-shift n zero = rw (pow-zero, div-one) refl
 bit-shift n (suc k) = bit-shift (n / 2) k ∙ ap (λ x. x % 2) (div-div-eq-div-mul n 2 (2 ^ k) ∙ ap (λ x. n / x) (sym (pow-succ' 2 k)))
+
+-- a number below 2 ^ h has no bit from place h on
+pub bit-beyond : (h n k : ℕ) → n < 2 ^ h → h ≤ k → bit n k ≡ 0
+bit-beyond h n k l b = bit-shift n k ∙ ap (λ x. x % 2) (div-eq-of-lt (omega (arith, pow-le-pow-right {n = 2} (omega arith) b)))
 
 -- a number below 2 ^ h is determined by its bits
 pub bit-ext : (h m n : ℕ) → m < 2 ^ h → n < 2 ^ h → ((k : ℕ) → k < h → bit m k ≡ bit n k) → m ≡ n

@@ -1,7 +1,7 @@
 -- Laws of the ternary excitation H: it covers every completion, it is monotone, and X means that two completions disagree.
 -- Assumes nothing.
 use Prim.Native.Nat.{ℕ, _^_, _<_}
-use mathlib.Core.Path.{_≡_, refl, sym, ap, _∙_, subst}
+use mathlib.Core.Path.{_≡_, refl, sym, ap, ap₂, _∙_, subst}
 use mathlib.Core.Logic.{_≢_, _⊎_, inl, inr, _↔_, Iff·trans}
 use mathlib.Core.Bool.{Bool, true, false}
 use mathlib.Core.List.{List, []}
@@ -9,11 +9,15 @@ use native.Mathlib.Omega.{arith}
 use lib.Dec.{eqb}
 use lib.ListN.{length}
 use borrow.Author.Tests.{eqb-true, eqb-false}
+use Rattle.ternary.specs.Bits.{bit}
+use Rattle.ternary.specs.Lists.{table, same, allBelow}
+use Rattle.ternary.specs.Run.{isStable}
 use Rattle.ternary.specs.Signal.{X, Signal, Covers, at, Completes, every}
 use Rattle.ternary.specs.Excitation.{agreed, AllGive, commonOf, common, H, C1, Disagree, DisagreeAt}
 use Rattle.ternary.proofs.BitLaws.{binary-iff}
-use Rattle.ternary.proofs.ListLaws.{length-table}
-use Rattle.ternary.proofs.SignalLaws.{covers-antisym, nil, every-true, every-false, completion, Above, above-completes, at-table}
+use Rattle.ternary.proofs.ListLaws.{length-table, all-ext}
+use Rattle.ternary.proofs.SameLaws.{same-all}
+use Rattle.ternary.proofs.SignalLaws.{covers-antisym, nil, every-true, every-false, completion, Above, above-completes, at-table, only-bits}
 
 module _ (F : ℕ → ℕ → ℕ → ℕ) (p r : List ℕ) (k : ℕ) where
   -- some completion excites k to something else
@@ -197,6 +201,18 @@ module _ (L h : ℕ) (F : ℕ → ℕ → ℕ → ℕ) (c1 : C1 L h F) where
   fixed-unknown p r lp e k l =
       let i : common F p r k ≡ at r k = sym (at-H F h p r k l) ∙ ap (λ v. at v k) e in
       subst (λ s. (s ≡ X) ↔ Disagree F p r k) i (common-unknown p r lp (sym (ap length e) ∙ length-H F h p r) k l)
+
+  -- where every signal is known there is one completion, and k has its excitation there
+  pub common-bits : (A q : ℕ) → A < 2 ^ L → q < 2 ^ h → (k : ℕ) → k < h → common F (table L (bit A)) (table h (bit q)) k ≡ F A q k
+  common-bits A q la lq k l = common-gives F (table L (bit A)) (table h (bit q)) k (F A q k) (binary-iff (F A q k) .1 (c1 A q k la lq l)) .1
+      (λ a r ca cr. ap₂ (λ x y. F x y k) (only-bits L A a la ca) (only-bits h q r lq cr))
+
+  -- a state is stable exactly if H leaves it
+  pub stable-same : (A q : ℕ) → A < 2 ^ L → q < 2 ^ h
+      → same (H F h (table L (bit A)) (table h (bit q))) (table h (bit q)) ≡ allBelow h (isStable F A q)
+  unfolding isStable
+  stable-same A q la lq = same-all h _ _ (length-H F h _ _) (length-table h (bit q))
+      ∙ all-ext h _ _ (λ k l. ap₂ eqb (at-H F h _ _ k l ∙ common-bits A q la lq k l) (at-table h (bit q) k l))
 
 -- ---- the common value of one function
 

@@ -1,11 +1,14 @@
 pub mod Examples
 pub mod Tests
 pub mod ListLaws
+pub mod SameLaws
 pub mod BitLaws
 pub mod SignalLaws
 pub mod ExcitationLaws
 pub mod TruthTableLaws
+pub mod PaddingLaws
 pub mod PassLaws
+pub mod PassSteps
 pub mod Passes
 pub mod RunLaws
 pub mod Invariant

@@ -1,7 +1,7 @@
 -- Laws of the tests, lists and tables over the numbers below a bound, and of equal lists. Assumes nothing.
 use Prim.Native.Nat.{ℕ, zero, suc, _+_, _<_, _≤_}
 use mathlib.Core.Path.{_≡_, refl, sym, ap, ap₂, subst, _∙_}
-use mathlib.Core.Bool.{Bool, true, false, cond, _&&_, _||_, true≢false, false≢true}
+use mathlib.Core.Bool.{Bool, true, false, cond, _||_, true≢false, false≢true}
 use mathlib.Core.Logic.{_⊎_, inl, inr, ⊎-elim, _↔_, _≢_}
 use mathlib.Core.List.{List, [], _∷_, _++_, List·Memᴰ, List·Memᴰ·head, List·Memᴰ·not-nil, List·Memᴰ·append-cases, List·Memᴰ·eq-of-singleton, Memᴰ·append-left, Memᴰ·append-right}
 use mathlib.Core.Option.{Option, none, some}
@@ -39,6 +39,12 @@ getD-table (suc n) f zero d l = refl
 getD-table (suc n) f (suc k) d l = getD-table n (λ j. f (suc j)) k d (le-of-suc-le-suc l)
 
 -- tables of functions that agree below the bound
+-- an entry is the same by any default
+pub getD-inside : {A : Type 0} (l : List A) (k : ℕ) (d e : A) → k < length l → getD l k d ≡ getD l k e
+getD-inside [] k d e h = absurd (not-suc-le-zero h)
+getD-inside (x ∷ l) zero d e h = refl
+getD-inside (x ∷ l) (suc k) d e h = getD-inside l k d e (omega arith)
+
 pub table-ext : {A : Type 0} (n : ℕ) (f g : ℕ → A) → ((k : ℕ) → k < n → f k ≡ g k) → table n f ≡ table n g
 unfolding table
 table-ext zero f g e = refl
@@ -118,6 +124,14 @@ module _ (p : ℕ → Bool) where
       go : (allBelow n p ≡ false → (i : ℕ) × (i < n) × (p i ≡ false)) → (allBelow n p ≡ false) ⊎ (p n ≡ false) → (i : ℕ) × (i < suc n) × (p i ≡ false)
       go f (inl h) = let r = f h in (r .0, omega (arith, r .1), r .2)
       go f (inr h) = (n, omega arith, h)
+
+  -- one number more, and a failure, for a loop in which all have passed so far
+  pub all-more : (n : ℕ) → allBelow n p ≡ true → p n ≡ true → allBelow (n + 1) p ≡ true
+  unfolding allBelow
+  all-more n e f = rw (add-one, allBelow, e, f)
+
+  pub all-fails : (n i : ℕ) → i < n → p i ≡ false → allBelow n p ≡ false
+  all-fails n i h f = fails (allBelow n p) (λ t. not-both (p i) (all-at n t i h) f)
 
   -- ---- the least number that passes
 

@@ -1,6 +1,6 @@
 -- The two passes: the first ascends, the second descends, each ends in a fixed point within h steps. Assumes nothing.
 use Prim.Native.Nat.{ℕ, zero, suc, _-_, _^_, _≤_, _<_}
-use mathlib.Core.Path.{_≡_, refl, sym, _∙_}
+use mathlib.Core.Path.{_≡_, refl, sym, ap, _∙_}
 use mathlib.Core.Logic.{_≢_, _⊎_, inl, inr, ⊎-elim, _↔_}
 use mathlib.Core.Bool.{cond}
 use mathlib.Core.List.{List}
@@ -9,7 +9,7 @@ use native.Mathlib.Numerals.{lt-of-le-of-ne}
 use native.Mathlib.Decide.{le-ind}
 use lib.Dec.{eqb}
 use lib.ListN.{length}
-use borrow.Author.Tests.{eqb-true, eqb-false}
+use borrow.Author.Tests.{eqb-true, eqb-false, eq-eqb}
 use Rattle.ternary.specs.Bits.{bit}
 use Rattle.ternary.specs.Lists.{table}
 use Rattle.ternary.specs.Signal.{X, Signal, Covers, at, Completes}
@@ -18,7 +18,7 @@ use Rattle.ternary.specs.Passes.{mix, settleBy, iterate, Ends, firstPass
 use Rattle.ternary.specs.Demand.{Premises}
 use Rattle.ternary.proofs.BitLaws.{bit-lt}
 use Rattle.ternary.proofs.SignalLaws.{covers-binary, Above, above-refl, above-trans, above-completes, completes-bits, covers-refl, at-table, unknowns, unknowns-le, unknowns-above}
-use Rattle.ternary.proofs.ListLaws.{length-table}
+use Rattle.ternary.proofs.ListLaws.{length-table, table-ext}
 use Rattle.ternary.proofs.PassLaws.{stopped, fixed, settleBy-length}
 use Rattle.ternary.proofs.ExcitationLaws.{length-H, H-signal, H-covers, H-mono, fixed-unknown}
 use Rattle.ternary.proofs.Tests.{by-test}
@@ -28,6 +28,11 @@ use Rattle.ternary.proofs.Tests.{by-test}
 pub length-mix : (L A B : ℕ) → length (mix L A B) ≡ L
 unfolding mix
 length-mix L A B = length-table L _
+
+-- where the input does not change, the signals are its bits
+pub mix-same : (L A : ℕ) → mix L A A ≡ table L (bit A)
+unfolding mix
+mix-same L A = table-ext L _ _ (λ j l. ap (λ b. cond b (bit A j) X) (eq-eqb (bit A j) (bit A j) refl))
 
 -- an input completes the mixed vector if it has A's or B's value at each letter
 pub completes-mix : (L A B a : ℕ) → a < 2 ^ L → ((j : ℕ) → j < L → (bit a j ≡ bit A j) ⊎ (bit a j ≡ bit B j)) → Completes (mix L A B) a

@@ -1,15 +1,16 @@
 -- The grown table holds, for every ternary vector, the value that the truth table has at all its completions. Assumes nothing.
-use Prim.Native.Nat.{ℕ, zero, suc, _+_, _*_, _^_, _<_}
+use Prim.Native.Nat.{ℕ, zero, suc, _+_, _-_, _*_, _^_, _≤_, _<_}
 use mathlib.Core.Path.{_≡_, refl, sym, ap, subst, _∙_}
 use mathlib.Core.Bool.{Bool, true, false, _&&_}
-use mathlib.Core.Logic.{inl, inr}
+use mathlib.Core.Logic.{inl, inr, _≢_}
 use mathlib.Core.List.{List, [], _∷_, _++_, map}
 use native.Mathlib.Omega.{arith}
 use native.Mathlib.Nat.{pow-zero, pow-succ', mul-zero, mul-one, add-zero, suc-inj}
+use native.Mathlib.Numerals.{sub-one}
 use lib.Dec.{leb, eqb, lit<}
 use lib.ListN.{length, getD, take, drop, length-append, length-drop, length-map, List·getD-append, List·getD-map}
 use lib.Seq.{length-take-le, take-suc, take-all, getD-append-add, getD-take, getD-drop}
-use borrow.Author.Tests.{eqb-true, ne-eqb, leb-false, lt-leb}
+use borrow.Author.Tests.{eqb-true, eq-eqb, ne-eqb, leb-false, lt-leb}
 use Rattle.ternary.specs.Lists.{table}
 use Rattle.ternary.specs.Signal.{X, Signal, every}
 use Rattle.ternary.specs.Excitation.{agreed, commonOf}
@@ -21,7 +22,18 @@ use Rattle.ternary.proofs.ExcitationLaws.{common-of-ext}
 
 -- ---- the index of a vector
 
-ternary-digit-lt : (s : ℕ) → ternaryDigit s < signalKinds
+-- a digit by a test
+pub ternary-digit-binary : (s : ℕ) → s < 2 → ternaryDigit s ≡ s
+ternary-digit-binary zero l = refl
+ternary-digit-binary (suc zero) l = refl
+ternary-digit-binary (suc (suc s)) l = absurd (omega arith)
+
+pub ternary-digit-unknown : (s : ℕ) → 2 ≤ s → ternaryDigit s ≡ 2
+ternary-digit-unknown zero l = absurd (omega arith)
+ternary-digit-unknown (suc zero) l = absurd (omega arith)
+ternary-digit-unknown (suc (suc s)) l = refl
+
+pub ternary-digit-lt : (s : ℕ) → ternaryDigit s < signalKinds
 ternary-digit-lt zero = omega arith
 ternary-digit-lt (suc zero) = omega arith
 ternary-digit-lt (suc (suc s)) = omega arith
@@ -31,26 +43,26 @@ unfolding ternaryIndex
 ternary-index-lt [] = omega (arith, pow-zero signalKinds)
 ternary-index-lt (s ∷ r) = rw (pow-succ' signalKinds (length r)) (omega (arith, ternary-digit-lt s, ternary-index-lt r))
 
-ternary-index-last : (r : List ℕ) (s : ℕ) → ternaryIndex (r ++ s ∷ []) ≡ ternaryIndex r + signalKinds ^ length r * ternaryDigit s
+pub ternary-index-last : (r : List ℕ) (s : ℕ) → ternaryIndex (r ++ s ∷ []) ≡ ternaryIndex r + signalKinds ^ length r * ternaryDigit s
 unfolding ternaryIndex
 ternary-index-last [] s = rw (pow-zero signalKinds) (omega arith)
 ternary-index-last (x ∷ r) s = rw (ternary-index-last r s, pow-succ' signalKinds (length r)) (omega arith)
 
 -- ---- grown tables, third by third
 
-length-agreeing : (a b : List ℕ) → length a ≡ length b → length (agreeing a b) ≡ length a
+pub length-agreeing : (a b : List ℕ) → length a ≡ length b → length (agreeing a b) ≡ length a
 unfolding agreeing
 length-agreeing [] b e = refl
 length-agreeing (x ∷ a) [] e = absurd (omega arith)
 length-agreeing (x ∷ a) (y ∷ b) e = ap suc (length-agreeing a b (suc-inj e))
 
-getD-agreeing : (a b : List ℕ) → length a ≡ length b → (i : ℕ) → getD (agreeing a b) i X ≡ agree (getD a i X) (getD b i X)
+pub getD-agreeing : (a b : List ℕ) → length a ≡ length b → (i d : ℕ) → getD (agreeing a b) i d ≡ agree (getD a i d) (getD b i d)
 unfolding agreeing
-getD-agreeing [] [] e i = refl
-getD-agreeing [] (y ∷ b) e i = absurd (omega arith)
-getD-agreeing (x ∷ a) [] e i = absurd (omega arith)
-getD-agreeing (x ∷ a) (y ∷ b) e zero = refl
-getD-agreeing (x ∷ a) (y ∷ b) e (suc i) = getD-agreeing a b (suc-inj e) i
+getD-agreeing [] [] e i d = rw (eq-eqb d d refl)
+getD-agreeing [] (y ∷ b) e i d = absurd (omega arith)
+getD-agreeing (x ∷ a) [] e i d = absurd (omega arith)
+getD-agreeing (x ∷ a) (y ∷ b) e zero d = refl
+getD-agreeing (x ∷ a) (y ∷ b) e (suc i) d = getD-agreeing a b (suc-inj e) i d
 
 -- the halves of a truth table: where the last variable is 0, and where it is 1
 module _ (n : ℕ) (t : List ℕ) (lt : length t ≡ 2 ^ suc n) where
@@ -69,24 +81,26 @@ grow-length (suc n) t e =
     rw (length-append, length-append, length-agreeing _ _ (low ∙ sym high), low, high, pow-succ' signalKinds n) (omega arith)
 
 -- a list behind one of length m begins at place m
-getD-behind : (a c : List ℕ) (m i : ℕ) → length a ≡ m → getD (a ++ c) (i + m) X ≡ getD c i X
-getD-behind a c m i e = let j : i + m ≡ length a + i = omega arith in rw j (getD-append-add a c i X)
+getD-behind : (a c : List ℕ) (m i d : ℕ) → length a ≡ m → getD (a ++ c) (i + m) d ≡ getD c i d
+getD-behind a c m i d e = let j : i + m ≡ length a + i = omega arith in rw j (getD-append-add a c i d)
 
--- the three thirds of a grown table
-module _ (a b : List ℕ) (m i : ℕ) (la : length a ≡ m) (lb : length b ≡ m) (l : i < m) where
-  abbrev thirds : List ℕ
-  thirds = a ++ (b ++ agreeing a b)
+-- the thirds of a list: a, then b, then c
+module _ (a b c : List ℕ) (m i d : ℕ) (la : length a ≡ m) (lb : length b ≡ m) where
+  pub first-third : i < m → getD (a ++ (b ++ c)) (i + m * 0) d ≡ getD a i d
+  first-third l = rw (mul-zero, add-zero) (List·getD-append a _ d i (omega arith))
 
-  first-third : getD thirds (i + m * 0) X ≡ getD a i X
-  first-third = rw (mul-zero, add-zero) (List·getD-append a _ X i (omega arith))
+  pub second-third : i < m → getD (a ++ (b ++ c)) (i + m * 1) d ≡ getD b i d
+  second-third l = rw mul-one (getD-behind a _ m i d la ∙ List·getD-append b _ d i (omega arith))
 
-  second-third : getD thirds (i + m * 1) X ≡ getD b i X
-  second-third = rw mul-one (getD-behind a _ m i la ∙ List·getD-append b _ X i (omega arith))
+  pub last-third : getD (a ++ (b ++ c)) (i + m * 2) d ≡ getD c i d
+  last-third = let j : i + m * 2 ≡ i + m + m = omega arith in rw j (getD-behind a _ m (i + m) d la ∙ getD-behind b _ m i d lb)
 
-  last-third : getD thirds (i + m * 2) X ≡ agree (getD a i X) (getD b i X)
-  last-third =
-      let j : i + m * 2 ≡ i + m + m = omega arith in
-      rw j (getD-behind a _ m (i + m) la ∙ getD-behind b _ m i lb ∙ getD-agreeing a b (la ∙ sym lb) i)
+-- a table over more than 0 variables, by its halves
+pub grow-halves : (n : ℕ) (t : List ℕ) → n ≢ 0
+    → let low = grow (n - 1) (take (2 ^ (n - 1)) t) in let high = grow (n - 1) (drop (2 ^ (n - 1)) t) in grow n t ≡ low ++ (high ++ agreeing low high)
+unfolding grow
+grow-halves zero t p = absurd (p refl)
+grow-halves (suc n) t p = rw (sub-one (suc n))
 
 -- ---- the common value by the last place of the vector
 
@@ -112,7 +126,7 @@ exclusive f r x y =
     omega arith
 
 module _ (f : ℕ → ℕ) (r : List ℕ) where
-  common-of-zero : commonOf f (r ++ 0 ∷ []) ≡ commonOf f r
+  pub common-of-zero : commonOf f (r ++ 0 ∷ []) ≡ commonOf f r
   unfolding commonOf every
   common-of-zero = simp (every-append, mul-zero, add-zero)
 
@@ -151,11 +165,12 @@ module _ (n : ℕ) (t r : List ℕ) (lr : length r ≡ n) (lt : length t ≡ 2 ^
       → (s : ℕ) → getD (grow (suc n) t) (ternaryIndex (r ++ s ∷ [])) X ≡ commonOf (λ w. getD t w X) (r ++ s ∷ [])
   unfolding grow
   grown-last l h zero = rw (ternary-index-last r 0, common-of-zero, ← common-low, ← l)
-      (first-third (grow n low) (grow n high) _ (ternaryIndex r) low-grown high-grown (ternary-index-lt r))
+      (first-third (grow n low) (grow n high) (agreeing (grow n low) (grow n high)) _ (ternaryIndex r) X low-grown high-grown (ternary-index-lt r))
   grown-last l h (suc zero) = rw (ternary-index-last r 1, common-of-one, ← common-high, ← h)
-      (second-third (grow n low) (grow n high) _ (ternaryIndex r) low-grown high-grown (ternary-index-lt r))
+      (second-third (grow n low) (grow n high) (agreeing (grow n low) (grow n high)) _ (ternaryIndex r) X low-grown high-grown (ternary-index-lt r))
   grown-last l h (suc (suc s)) = rw (ternary-index-last r (suc (suc s)), common-of-more, ← common-low, ← common-high, ← l, ← h)
-      (last-third (grow n low) (grow n high) _ (ternaryIndex r) low-grown high-grown (ternary-index-lt r))
+      (last-third (grow n low) (grow n high) (agreeing (grow n low) (grow n high)) _ (ternaryIndex r) X low-grown high-grown
+      ∙ getD-agreeing (grow n low) (grow n high) (low-grown ∙ sym high-grown) (ternaryIndex r) X)
 
 -- a signal is what it has in common with itself
 common-nil : (f : ℕ → ℕ) → Signal (f 0) → f 0 ≡ commonOf f []

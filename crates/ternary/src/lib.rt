@@ -10,6 +10,9 @@ pub struct Signal;
 impl Signal {
     // The byte of an unknown signal, the report's one half.
     pub const X: u8 = 4;
+
+    // How many signals there are: 0, 1 and X.
+    pub const KINDS: usize = 3;
 }
 
 // The code's X is the definitions' X.

@@ -15,12 +15,12 @@ use Rattle.net.specs.SignalTable.{gather, spreadInput, spreadKeys, excitationAt
 use Rattle.net.specs.WellFormed.{breaksC1, placeC1}
 use Rattle.net.proofs.Keys.{key-storage}
 use Rattle.net.proofs.SignalTable.{spread-clean}
+use Rattle.net.proofs.TableLaws.{storage-row}
 use Rattle.net.proofs.WellFormed.{BreaksC1, breaks-c1-iff}
 use Rattle.lanes.specs.Lanes.{assignments, lane}
 use Rattle.excitations.specs.Excitations.{excitationLanes}
 use Rattle.excitations.specs.Fit.{Fit}
-use Rattle.states.proofs.GatherLaws.{gather-below}
-use Rattle.troubles.proofs.RowReads.{storage-row, excitation-read, excitation-entry}
+use Rattle.excitations.proofs.TableReads.{excitation-read, gather-below, excitation-entry}
 
 -- the entry of row v at assignment w is 2 or 3
 abbrev pub unsettled : Net → ℕ → ℕ → Bool
@@ -32,7 +32,7 @@ module _ (N : Net) (fit : Fit N) where
   there v b =
       let s = key-storage N v (b .key) in
       let w = gather N v (b .input) (b .state) in
-      both (b .key) (any-of (unsettled N v) assignments w (gather-below N v fit s (b .input) (b .state))
+      both (b .key) (any-of (unsettled N v) assignments w (gather-below N fit v s (b .input) (b .state))
       (le-leb 2 (lane (excitationLanes N) v w) (omega (arith, excitation-entry N fit v s (b .input) (b .state), b .excited))))
 
   -- an entry is the excitation in the state that gives the signals its values
@@ -40,7 +40,7 @@ module _ (N : Net) (fit : Fit N) where
   unfolding excitationAt
   back v k (w, l, e) =
       let s = key-storage N v k in
-      let r : lane (excitationLanes N) v w ≡ excitation N (spreadInput N v w) (spreadKeys N v w) v = excitation-read N v w (storage-row N fit v s) l s in
+      let r : lane (excitationLanes N) v w ≡ excitation N (spreadInput N v w) (spreadKeys N v w) v = excitation-read N v w (storage-row N (fit .readable) v s) l s in
       let h = leb-true 2 (lane (excitationLanes N) v w) e in
       record { key = k; input = spreadInput N v w; state = spreadKeys N v w; clean = spread-clean N v w; excited = λ b. omega (arith, r, h, b) }
 

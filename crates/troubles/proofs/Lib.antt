@@ -1,3 +1,4 @@
+pub mod FitLaws
 pub mod MarkLaws
 pub mod ValueLaws
 pub mod RowLaws
@@ -5,9 +6,10 @@ pub mod KeyReads
 pub mod EdgeReads
 pub mod FightLaws
 pub mod EdgeLaws
-pub mod RowReads
+pub mod TwoReads
 pub mod TwoLaws
 pub mod VertexLaws
 pub mod LowestLaws
 pub mod FirstLaws
+pub mod BreakLaws
 pub mod VerdictTests

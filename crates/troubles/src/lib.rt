@@ -1,5 +1,2 @@
-//! Troubles: fights, and outputs excited to 2, that some stable state has. Vertices and edges that have none in any state are passed over.
-
-pub mod edges;
-pub mod marks;
-pub mod vertices;
+//! No code: definitions and laws of troubles, that is fights, and outputs excited to 2, that some stable state has. The functions are in the crates
+//! `marks`, `edge_fights` and `vertex_troubles`, and for condition C1 in `c1`.

@@ -3,12 +3,15 @@
 
 ghost use Prim.Native.Nat.{_≤_, _<_};
 ghost use lib.ListN.{length};
+use cases::case_in_force;
+use cases::columns;
+use cases::large_at;
+use cases::number_at;
+use cases::part;
 use libc::STDIN_FILENO;
 use libc::STDOUT_FILENO;
-use lines::fields;
 use net::Net;
 use sheet::Answer;
-use sheet::Field;
 use sheet::Sheet;
 use verdict::Excited;
 
@@ -31,16 +34,8 @@ impl Case {
 
 // A number in four columns.
 fn print_column(n: u64) {
-    if n < 1000 {
-        io::write_all(STDOUT_FILENO, b" ");
-    }
-    if n < 100 {
-        io::write_all(STDOUT_FILENO, b" ");
-    }
-    if n < 10 {
-        io::write_all(STDOUT_FILENO, b" ");
-    }
-    io::print_decimal(STDOUT_FILENO, n);
+    let text = columns(n);
+    io::write_all(STDOUT_FILENO, &text);
 }
 
 // A number and its place.
@@ -87,55 +82,12 @@ fn print_state(net: Net, input: u32, key: u32) {
     }
 }
 
-// The number in four columns at a place of the input; 0 where there is none.
-fn number_at(cases: &[u8], at: usize) -> usize
-    ensures { λ r. ⌜ r ≤ 65535 ⌝ }
-{
-    let size = cases.len();
-    if size < Sheet::FIELD_WIDTH {
-        return 0;
-    }
-    if size - Sheet::FIELD_WIDTH < at {
-        return 0;
-    }
-    let end = at + Sheet::FIELD_WIDTH;
-    let Field::Number(n) = fields::read_field(&cases[at..end]) else {
-        return 0;
-    };
-    n as usize
-}
-
-// A number in three such fields, each the next four digits; the largest of 32 bits where it is above that.
-fn large_at(cases: &[u8], at: usize) -> u32 {
-    if cases.len() < at {
-        return 0;
-    }
-    let first = number_at(cases, at) as u64;
-    let second = number_at(cases, at + Sheet::FIELD_WIDTH) as u64;
-    let third = number_at(cases, at + 2 * Sheet::FIELD_WIDTH) as u64;
-    let n = first * 100000000 + second * 10000 + third;
-    if n < 4294967295 { n as u32 } else { 4294967295 }
-}
-
-// Some bytes of the input; none where they are not all there.
-fn part(cases: &[u8], at: usize, n: usize) -> &[u8] {
-    let size = cases.len();
-    if size < n {
-        return &cases[0..0];
-    }
-    if size - n < at {
-        return &cases[0..0];
-    }
-    let end = at + n;
-    &cases[at..end]
-}
-
 // The sheet of the case at a place.
 fn sheet_at(cases: &[u8], at: usize) -> &[u8]
     requires { ⌜ at ≤ length (now cases) ⌝ }
 {
-    let note_size = number_at(cases, at + Case::NOTE_SIZE);
-    let sheet_size = number_at(cases, at + Case::SHEET_SIZE);
+    let note_size = number_at(cases, at + Case::NOTE_SIZE) as usize;
+    let sheet_size = number_at(cases, at + Case::SHEET_SIZE) as usize;
     part(cases, at + Case::NOTE + note_size, sheet_size)
 }
 
@@ -146,7 +98,7 @@ fn print_answer(cases: &[u8], at: usize, sheet: &[u8])
     let input = large_at(cases, at + Case::INPUT);
     let key = large_at(cases, at + Case::KEY);
     let vertex = large_at(cases, at + Case::VERTEX);
-    let reading = reader::reader::read(sheet);
+    let reading = reader::read(sheet);
     let net = reading.net;
     match cases[at] {
         b'N' => print_place(reading.answer),
@@ -162,22 +114,14 @@ fn run_case(cases: &[u8], at: usize, from: usize) -> usize
     ensures { λ r. ⌜ (at < r) × (r ≤ length (now (cases .entry))) ⌝ }
 {
     let size = cases.len();
-    let note_size = number_at(cases, at + Case::NOTE_SIZE);
-    let sheet_size = number_at(cases, at + Case::SHEET_SIZE);
+    let note_size = number_at(cases, at + Case::NOTE_SIZE) as usize;
+    let sheet_size = number_at(cases, at + Case::SHEET_SIZE) as usize;
     print_answer(cases, at, sheet_at(cases, from));
     io::write_all(STDOUT_FILENO, b" ");
     io::write_all(STDOUT_FILENO, part(cases, at + Case::NOTE, note_size));
     io::write_all(STDOUT_FILENO, b"\n");
     let next = at + Case::NOTE + note_size + sheet_size;
     if next < size { next } else { size }
-}
-
-// The case whose sheet is in force at the case at a place: that case itself if its kind is N, else the one before.
-fn case_in_force(cases: &[u8], at: usize, before: usize) -> usize
-    requires { ⌜ (at < length (now cases)) × (before ≤ length (now cases)) ⌝ }
-    ensures { λ r. ⌜ r ≤ length (now (cases .entry)) ⌝ }
-{
-    if cases[at] == b'N' { at } else { before }
 }
 
 fn run_cases(cases: &[u8]) {

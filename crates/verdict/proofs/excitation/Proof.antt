@@ -8,10 +8,10 @@ use borrow.Author.Tests.{not-true, not-false}
 use Rattle.net.specs.Limits.{mostVertices}
 use Rattle.net.specs.Graph.{isStorage}
 use Rattle.net.specs.Network.{isInputState, isKeyState}
+use Rattle.net.proofs.TableLaws.{storage-row}
 use Rattle.excitations.specs.Fit.{Fit}
 use Rattle.sheet.specs.Valid.{valid}
-use Rattle.troubles.proofs.RowReads.{storage-row}
-use Rattle.verdict.proofs.FitLaws.{valid-fit}
+use Rattle.troubles.proofs.FitLaws.{valid-fit}
 use Rattle.verdict.proofs.ExcitedSteps.{bad-record, bad-input, bad-key-state, no-storage, all-fit}
 use Rattle.verdict.proofs.excitation.Statement.{statement}
 use Rattle.verdict.proofs.excitation.Tie as tie
@@ -63,7 +63,7 @@ returns-4 : tie.Need-returns-4
 returns-4 c = no-storage _ _ _ _ (valid-record (c .before .before .before .before .before .before .before .before)) (input-state (c .before .before .before .before .before)) (key-state (c .before .before)) (sym (c .before .is-storage .ensures) ∙ not-true _ (c .if4 .taken))
 
 vertex-low : (c : tie.Else4) → c .before .before .before .before .before .before .before .before .before .before .args .vertex ≤ mostVertices
-vertex-low c = storage-row _ (fit (c .before .before .before .before .before .before .before .before)) _ (storage-vertex c)
+vertex-low c = storage-row _ (fit (c .before .before .before .before .before .before .before .before) .readable) _ (storage-vertex c)
 
 cast-value : tie.Need-cast-value
 cast-value c = let h = vertex-low c in search needs

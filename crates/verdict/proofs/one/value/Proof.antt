@@ -2,11 +2,11 @@
 use native.Mathlib.Omega.{arith}
 use borrow.Author.Needs.{needs}
 use Prim.Native.Nat.{_+_, _<_}
+use Rattle.net.proofs.TableLaws.{storage-row, prepared}
 use Rattle.lanes.specs.Lanes.{assignments}
 use Rattle.states.specs.Weights.{Small}
 use Rattle.states.proofs.WeightLaws.{weights-small}
-use Rattle.troubles.proofs.RowReads.{storage-row}
-use Rattle.verdict.proofs.OneLaws.{prepared, index-below, value-read}
+use Rattle.verdict.proofs.OneLaws.{index-below, value-read}
 use Rattle.verdict.proofs.one.value.Statement.{statement}
 use Rattle.verdict.proofs.one.value.Tie as tie
 
@@ -62,7 +62,7 @@ add-result : tie.Need-add-result
 add-result c = let h = below c in search needs
 
 array-read-result : tie.Need-array-read-result
-array-read-result c = let h = below c in omega (arith, h, storage-row _ (c .before .before .before .before .before .before .before .before .before .before .before .before .before .before .before .before .before .before .before .pre .0) _ (c .before .before .before .before .before .before .before .before .before .before .before .before .before .before .before .before .before .before .before .pre .1))
+array-read-result c = let h = below c in omega (arith, h, storage-row _ (c .before .before .before .before .before .before .before .before .before .before .before .before .before .before .before .before .before .before .before .pre .0 .readable) _ (c .before .before .before .before .before .before .before .before .before .before .before .before .before .before .before .before .before .before .before .pre .1))
 
 returns : tie.Need-returns
 returns c =

@@ -1,0 +1,57 @@
+-- A part is there or not, and a field at a place reads as a number or not; beyond the input all numbers are 0, and no case stands there.
+use Prim.Native.Nat.{ℕ, _+_, _-_, _*_, _≤_, _<_}
+use native.Mathlib.Omega.{arith}
+use mathlib.Core.Path.{_≡_}
+use mathlib.Core.List.{List, []}
+use mathlib.Core.Option.{Option}
+use lib.Dec.{eqb}
+use lib.ListN.{length, take, drop, getD, List·getD-eq-default}
+use borrow.Author.Tests.{le-leb, lt-leb}
+use Rattle.ternary.proofs.Tests.{cond-by}
+use Rattle.sheet.specs.declared.Field.the-variants.{Number, Refused}
+use Rattle.sheet.specs.Limits.{fieldWidth}
+use Rattle.sheet.specs.Field.{readField, fieldAnswer}
+use Rattle.sheet.proofs.FieldSteps.{wrong-width}
+use Rattle.sheet.proofs.LineSteps.{number-of, refused-of, part}
+use Rattle.cases.specs.Input.{partOf, numberAt, threeFields, sheetKind, inForce}
+
+module _ (b : List ℕ) (at n : ℕ) where
+  pub part-missing : length b < at + n → [] ≡ partOf b at n
+  unfolding partOf
+  part-missing h = rw (lt-leb (at + n) (length b) h)
+
+  pub part-there : at + n ≤ length b → take (at + n - at) (drop at b) ≡ partOf b at n
+  unfolding partOf
+  part-there h = rw (le-leb (at + n) (length b) h) (part b at n)
+
+-- the field at a place, once it is read
+abbrev field : List ℕ → ℕ → Option ℕ
+field b at = readField fieldWidth (partOf b at fieldWidth)
+
+module _ (b : List ℕ) (at : ℕ) where
+  pub number-there : (n : ℕ) → fieldAnswer (field b at) ≡ Number n → n ≡ numberAt b at
+  unfolding numberAt
+  number-there n e = rw (number-of (field b at) n e)
+
+  pub number-missing : fieldAnswer (field b at) ≡ Refused → 0 ≡ numberAt b at
+  unfolding numberAt
+  number-missing e = rw (refused-of (field b at) e)
+
+  number-beyond : length b < at + fieldWidth → numberAt b at ≡ 0
+  unfolding numberAt
+  number-beyond h = rw (← part-missing b at fieldWidth h, wrong-width fieldWidth [] (λ e. omega (arith, e)))
+
+module _ (b : List ℕ) (at : ℕ) where
+  pub three-beyond : length b < at → 0 ≡ threeFields b at
+  unfolding threeFields
+  three-beyond h =
+      rw (number-beyond b at (omega arith), number-beyond b (at + fieldWidth) (omega arith), number-beyond b (at + 2 * fieldWidth) (omega arith))
+
+  module _ (before : ℕ) where
+    pub in-force-beyond : length b ≤ at → before ≡ inForce b at before
+    unfolding inForce
+    in-force-beyond h = rw (List·getD-eq-default b 0 h)
+
+    pub in-force-within : at ≤ length b → before ≤ length b → inForce b at before ≤ length b
+    unfolding inForce
+    in-force-within h k = cond-by (λ i. i ≤ length b) (eqb (getD b at 0) sheetKind) (λ _. h) (λ _. k)

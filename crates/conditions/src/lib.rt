@@ -1,0 +1,120 @@
+//! Which edges a connection may use, in lanes. Definitions and laws are those of the crate `excitations`.
+use net::Condition;
+use net::Kind;
+use net::Net;
+use net::Symbol;
+ghost use mathlib.Core.Path.{_≡_};
+ghost use Prim.Native.Nat.{suc, _≤_, _*_};
+ghost use lib.Dec.{eqb};
+ghost use lib.ListN.{length, getD};
+ghost use Rattle.ternary.specs.Bits.{digit};
+ghost use Rattle.ternary.specs.Lists.{countBelow};
+ghost use Rattle.net.specs.Limits.{mostVertices};
+ghost use Rattle.net.specs.Symbols.{decode, symbolBound};
+ghost use Rattle.net.specs.State.{admits, conditionOf};
+ghost use Rattle.net.specs.Tables.{Prepared, storageFlags};
+ghost use Rattle.lanes.specs.Grid.{setRow};
+ghost use Rattle.lanes.specs.Lanes as lane-spec;
+ghost use Rattle.excitations.specs.Fit.{Fit};
+ghost use Rattle.excitations.specs.Conditions.{signalPlaces, symbolAt, usableLanes};
+
+// Row y: for each symbol how many flags stand before its own.
+fn place_row<'a>(places: &'a mut [u8; Net::SYMBOL_PLACES], y: usize, flags: &'a [u8; Symbol::BOUND])
+    requires { ⌜ (length (now places) ≡ suc mostVertices * symbolBound) × (y ≤ mostVertices) ⌝ }
+    ensures { λ r. ⌜ now (places .exit) ≡ setRow symbolBound y (λ s. countBelow s (λ t. eqb (getD (now (flags .entry)) t 0) 1)) (now (places .entry)) ⌝ }
+{
+    let from = y * Symbol::BOUND;
+    let mut count: u8 = 0;
+    for s in 0..Symbol::BOUND {
+        places[from + s] = count;
+        if flags[s] == 1 {
+            count += 1;
+        }
+    }
+}
+
+// The place of each symbol among the signals of each storage vertex's component.
+pub fn signal_places<'a>(
+    net: Net,
+    storage: &'a [u8; Net::VERTEX_PLACES],
+    labels: &'a [u8; Net::VERTEX_PLACES],
+) -> [u8; Net::SYMBOL_PLACES]
+    requires { ⌜ Prepared net (now storage) (now labels) ⌝ }
+    ensures { λ r. ⌜ r ≡ signalPlaces net ⌝ }
+{
+    let mut places = [0u8; Net::SYMBOL_PLACES];
+    for y in 0..Net::VERTEX_PLACES {
+        if storage[y] == 1 {
+            let flags = signals::signal_flags(net, storage, labels, y as u8);
+            place_row(&mut places, y, &flags);
+        }
+    }
+    places
+}
+
+// A symbol's value where its signal has the value `bit`.
+pub fn symbol_at(symbol: Symbol, bit: u8) -> u8
+    ensures { λ r. ⌜ r ≡ symbolAt symbol bit ⌝ }
+{
+    match symbol {
+        Symbol::Constant(c) => c,
+        Symbol::Letter(_) => bit,
+        Symbol::Vertex(_) => bit,
+        Symbol::Unknown => 0,
+    }
+}
+
+// 1 if a connection of a kind may use an edge of a condition, else 0.
+fn admitted(kind: Kind, condition: Condition) -> u8
+    ensures { λ r. ⌜ r ≡ digit (admits kind condition) ⌝ }
+{
+    match condition {
+        Condition::Open => 0,
+        Condition::NClosed => match kind {
+            Kind::Any => 1,
+            Kind::NType => 1,
+            Kind::PType => 0,
+        },
+        Condition::PClosed => match kind {
+            Kind::Any => 1,
+            Kind::NType => 0,
+            Kind::PType => 1,
+        },
+    }
+}
+
+// The same of an edge's form and symbol, where the symbol's signal has the value `bit`.
+fn usable_at(kind: Kind, form: u8, symbol: u16, bit: u8) -> u8
+    ensures { λ r. ⌜ r ≡ digit (admits kind (conditionOf form (symbolAt (decode symbol) bit))) ⌝ }
+{
+    admitted(
+        kind,
+        symbols::condition_of(form, symbol_at(symbols::decoded(symbol), bit)),
+    )
+}
+
+// 1 where a connection of a kind may use an edge, at each assignment of the signals of the component that the edge touches.
+pub fn usable_lanes<'a>(
+    net: Net,
+    storage: &'a [u8; Net::VERTEX_PLACES],
+    places: &'a [u8; Net::SYMBOL_PLACES],
+    columns: &'a [u8; Net::COLUMN_LANES],
+    kind: Kind,
+) -> [u8; Net::EDGE_LANES]
+    requires { ⌜ Fit net × (now storage ≡ storageFlags net) × (now places ≡ signalPlaces net) × (now columns ≡ lane-spec.columns) ⌝ }
+    ensures { λ r. ⌜ r ≡ usableLanes net kind ⌝ }
+{
+    let mut on = [0u8; Net::EDGE_LANES];
+    let count = net.edge_count as usize;
+    for i in 0..count {
+        let edge = net.edges[i];
+        let y = lanes::chosen(edge.end2, edge.end1, storage[edge.end1 as usize]) as usize;
+        if storage[y] == 1 {
+            let p = places[y * Symbol::BOUND + edge.symbol as usize];
+            let low = usable_at(kind, edge.form, edge.symbol, 0);
+            let high = usable_at(kind, edge.form, edge.symbol, 1);
+            lanes::choose_row(&mut on, i, columns, p as usize, low, high);
+        }
+    }
+    on
+}

@@ -1,0 +1,258 @@
+-- `connections::driven` meets its contract: the marks are those that the first i edges set. Assumes nothing.
+use native.Mathlib.Omega.{arith}
+use borrow.Author.Needs.{needs}
+use mathlib.Core.Path.{_≡_, sym, ap, _∙_}
+use mathlib.Core.Bool.{true, false}
+use mathlib.Core.Logic.{⊎-elim}
+use Prim.Native.Nat.{suc, _+_, _*_, _≤_, _<_, _-_}
+use lib.Dec.{eqb}
+use lib.ListN.{length, getD}
+use borrow.Author.Tests.{eq-eqb, ne-eqb, not-true, not-false}
+use Rattle.net.specs.Limits.{mostVertices, mostSignals}
+use Rattle.net.specs.Symbols.{symbolBound}
+use Rattle.net.specs.Graph.{noEdge, edgeAt, isStorage}
+use Rattle.net.specs.SignalTable.{signalIndex}
+use Rattle.net.proofs.TableLaws.{storage-test}
+use Rattle.lanes.specs.Lanes.{assignments}
+use Rattle.excitations.specs.Conditions.{owner, other}
+use Rattle.excitations.proofs.OwnerLaws.{owner-chosen, other-chosen, owner-range, other-range, labelOf, label-read}
+use Rattle.excitations.proofs.PlaceLaws.{place-read}
+use Rattle.excitations.proofs.DrivenLaws.{label-small, label-place, firstDriven, length-driven, driven-none, driven-step, driven-outer, driven-inner, driven-all}
+use Rattle.connections.proofs.driven.Statement.{statement}
+use Rattle.connections.proofs.driven.Tie as tie
+
+abbrev Inv-loop : tie.InvT-loop
+Inv-loop storage inputs places columns on value net marks₀ count i₀ marks i = (i ≤ count) × (marks ≡ firstDriven net on value i)
+
+abbrev μ-loop : tie.MeasureT-loop
+μ-loop storage inputs places columns on value net marks₀ count i₀ marks i = count - i
+
+-- the first end of edge i
+first-end : (c : tie.In-loop Inv-loop μ-loop) → (getD (c .before .before .args .t1 .edges) (c .before .loop .i) noEdge) .end1 ≤ mostVertices
+unfolding edgeAt
+first-end c = c .before .before .pre .0 .readable .first-end (c .before .loop .i) (c .loop-test .taken)
+
+-- the ends that are chosen
+owned : (c : tie.After-chosen Inv-loop μ-loop) → (let t = c .before .before .before .before in let N = t .before .before .args .t1 in c .chosen .result ≡ owner N (edgeAt N (t .before .loop .i)))
+unfolding edgeAt
+owned c =
+    let t = c .before .before .before .before in
+    let s = t .before .before in
+    c .chosen .ensures ∙ owner-chosen (s .args .t1) (s .args .storage .now) (s .pre .1) _ (first-end t)
+
+opposite : (c : tie.After-chosen2 Inv-loop μ-loop) → (let t = c .before .before .before .before .before in let N = t .before .before .args .t1 in c .chosen2 .result ≡ other N (edgeAt N (t .before .loop .i)))
+unfolding edgeAt
+opposite c =
+    let t = c .before .before .before .before .before in
+    let s = t .before .before in
+    c .chosen2 .ensures ∙ other-chosen (s .args .t1) (s .args .storage .now) (s .pre .1) _ (first-end t)
+
+-- both stand in a table of vertices
+y-range : (c : tie.After-chosen Inv-loop μ-loop) → c .chosen .result ≤ mostVertices
+y-range c =
+    let t = c .before .before .before .before in
+    rw (owned c) (owner-range _ (t .before .before .pre .0 .readable) (t .before .loop .i) (t .loop-test .taken))
+
+x-range : (c : tie.After-chosen2 Inv-loop μ-loop) → c .chosen2 .result ≤ mostVertices
+x-range c =
+    let t = c .before .before .before .before .before in
+    rw (opposite c) (other-range _ (t .before .before .pre .0 .readable) (t .before .loop .i) (t .loop-test .taken))
+
+-- the flags that the loop tests
+y-storage : (c : tie.After-chosen2 Inv-loop μ-loop) → (let t = c .before .before .before .before .before in let s = t .before .before in let N = s .args .t1 in
+    isStorage N (owner N (edgeAt N (t .before .loop .i))) ≡ eqb (getD (s .args .storage .now) (c .before .chosen .result) 0) 1)
+y-storage c =
+    let s = c .before .before .before .before .before .before .before in
+    rw (← owned (c .before)) (sym (storage-test _ _ (s .pre .1) (c .before .chosen .result) (y-range (c .before))))
+
+x-storage : (c : tie.After-chosen2 Inv-loop μ-loop) → (let t = c .before .before .before .before .before in let s = t .before .before in let N = s .args .t1 in
+    isStorage N (other N (edgeAt N (t .before .loop .i))) ≡ eqb (getD (s .args .storage .now) (c .chosen2 .result) 0) 1)
+x-storage c =
+    let s = c .before .before .before .before .before .before .before in
+    rw (← opposite c) (sym (storage-test _ _ (s .pre .1) (c .chosen2 .result) (x-range c)))
+
+-- the label opposite, and the place of its signal
+label : (c : tie.After-chosen2 Inv-loop μ-loop) → (let t = c .before .before .before .before .before in let s = t .before .before in let N = s .args .t1 in let i = t .before .loop .i in
+    isStorage N (other N (edgeAt N i)) ≡ false → getD (s .args .inputs .now) (c .chosen2 .result) 0 ≡ labelOf N i)
+label c sx =
+    let t = c .before .before .before .before .before in
+    let s = t .before .before in
+    label-read _ (s .pre .0) (t .before .loop .i) (t .loop-test .taken) sx (s .pre .2) (opposite c)
+
+place : (c : tie.After-chosen2 Inv-loop μ-loop) → (let t = c .before .before .before .before .before in let s = t .before .before in let N = s .args .t1 in let i = t .before .loop .i in
+    isStorage N (owner N (edgeAt N i)) ≡ true → isStorage N (other N (edgeAt N i)) ≡ false
+    → getD (s .args .places .now) (c .before .chosen .result * symbolBound + getD (s .args .inputs .now) (c .chosen2 .result) 0) 0 ≡ signalIndex N (owner N (edgeAt N i)) (labelOf N i))
+place c sy sx =
+    let t = c .before .before .before .before .before in
+    let s = t .before .before in
+    let i = t .before .loop .i in
+    rw (owned (c .before), label c sx, s .pre .3)
+    (place-read _ _ _ sy (owner-range _ (s .pre .0 .readable) i (t .loop-test .taken)) (label-small _ (s .pre .0) i (t .loop-test .taken) sx))
+
+-- what both tests tell
+tested : (c : tie.Then2 Inv-loop μ-loop) → (let t = c .before .before .before .before .before .before .before .before .before in let N = t .before .before .args .t1 in let i = t .before .loop .i in
+    (isStorage N (owner N (edgeAt N i)) ≡ true) × (isStorage N (other N (edgeAt N i)) ≡ false))
+tested c =
+    let k = c .before .before .before .before in
+    (y-storage k ∙ eq-eqb _ _ (c .before .before .if1 .taken), x-storage k ∙ not-true _ (c .if2 .taken))
+
+-- the label is a symbol's number
+label-fits : (c : tie.Then2 Inv-loop μ-loop) → (let k = c .before .before .before .before in let s = k .before .before .before .before .before .before .before in getD (s .args .inputs .now) (k .chosen2 .result) 0 < symbolBound)
+label-fits c =
+    let k = c .before .before .before .before in
+    let t = k .before .before .before .before .before in
+    rw (label k (tested c .1)) (label-small _ (t .before .before .pre .0) (t .before .loop .i) (t .loop-test .taken) (tested c .1))
+
+-- it is a row of the columns
+place-few : (c : tie.Then2 Inv-loop μ-loop) → (let k = c .before .before .before .before in let s = k .before .before .before .before .before .before .before in
+    getD (s .args .places .now) (k .before .chosen .result * symbolBound + getD (s .args .inputs .now) (k .chosen2 .result) 0) 0 ≤ mostSignals)
+place-few c =
+    let k = c .before .before .before .before in
+    let t = k .before .before .before .before .before in
+    rw (place k (tested c .0) (tested c .1)) (label-place _ (t .before .before .pre .0) (t .before .loop .i) (t .loop-test .taken) (tested c .1) (tested c .0))
+
+-- the table's length
+size : (c : tie.In-loop Inv-loop μ-loop) → length (c .before .loop .marks) ≡ suc mostVertices * assignments
+size c = ap length (c .before .loop .inv .1) ∙ length-driven _ _ _ _
+
+cast-count : tie.Need-cast-count Inv-loop μ-loop
+cast-count c = search needs
+
+loop-holds : tie.Need-loop-holds Inv-loop μ-loop
+loop-holds c = (search needs, driven-none _ _ _)
+
+mul-edge : tie.Need-mul-edge Inv-loop μ-loop
+mul-edge c = omega (arith, c .before .before .pre .0 .readable .edges)
+
+element-copy-out-edge : tie.Need-element-copy-out-edge Inv-loop μ-loop
+element-copy-out-edge c = omega (arith, c .before .before .pre .0 .readable .edges)
+
+cast-flag : tie.Need-cast-flag Inv-loop μ-loop
+cast-flag c = omega (arith, first-end (c .before .before))
+
+element-copy-out-flag : tie.Need-element-copy-out-flag Inv-loop μ-loop
+element-copy-out-flag c = omega (arith, first-end (c .before .before))
+
+chosen-requires : tie.Need-chosen-requires Inv-loop μ-loop
+chosen-requires c κs = search needs
+
+cast-y : tie.Need-cast-y Inv-loop μ-loop
+cast-y c = omega (arith, y-range c)
+
+chosen-requires-2 : tie.Need-chosen-requires-2 Inv-loop μ-loop
+chosen-requires-2 c κs = search needs
+
+cast-x : tie.Need-cast-x Inv-loop μ-loop
+cast-x c = omega (arith, x-range c)
+
+element-copy-out-if1 : tie.Need-element-copy-out-if1 Inv-loop μ-loop
+element-copy-out-if1 c = omega (arith, y-range (c .before))
+
+element-copy-out-if2 : tie.Need-element-copy-out-if2 Inv-loop μ-loop
+element-copy-out-if2 c = omega (arith, x-range (c .before .before))
+
+mul-label : tie.Need-mul-label Inv-loop μ-loop
+mul-label c = omega (arith, x-range (c .before .before .before .before))
+
+element-copy-out-label : tie.Need-element-copy-out-label Inv-loop μ-loop
+element-copy-out-label c = omega (arith, x-range (c .before .before .before .before))
+
+mul-p : tie.Need-mul-p Inv-loop μ-loop
+mul-p c = omega (arith, y-range (c .before .before .before .before .before .before))
+
+cast-p : tie.Need-cast-p Inv-loop μ-loop
+cast-p c = omega (arith, label-fits (c .before))
+
+add-p : tie.Need-add-p Inv-loop μ-loop
+add-p c = omega (arith, y-range (c .before .before .before .before .before .before), label-fits (c .before))
+
+element-copy-out-p : tie.Need-element-copy-out-p Inv-loop μ-loop
+element-copy-out-p c = omega (arith, y-range (c .before .before .before .before .before .before), label-fits (c .before))
+
+label-hits-requires : tie.Need-label-hits-requires Inv-loop μ-loop
+label-hits-requires c κs = search needs
+
+label-hits-requires-2 : tie.Need-label-hits-requires-2 Inv-loop μ-loop
+label-hits-requires-2 c κs = search needs
+
+slice-aggregate-mark-row : tie.Need-slice-aggregate-mark-row Inv-loop μ-loop
+slice-aggregate-mark-row c = sym (size (c .before .before .before .before .before .before .before .before .before .before .before .before .before .before))
+
+cast-mark-row : tie.Need-cast-mark-row Inv-loop μ-loop
+cast-mark-row c = omega (arith, place-few (c .before .before .before .before .before .before))
+
+mark-row-requires : tie.Need-mark-row-requires Inv-loop μ-loop
+mark-row-requires c κs =
+    let t = c .before .before .before .before .before .before .before .before .before .before .before .before .before .before .before in
+    let s = t .before .before in (
+      omega (arith, size t, y-range (c .before .before .before .before .before .before .before .before .before .before .before)),
+      omega (arith, c .mark-row-arg .given .0, s .pre .0 .readable .edges),
+      place-few (c .before .before .before .before .before .before),
+      s .pre .4,
+    )
+
+add-i : tie.Need-add-i Inv-loop μ-loop
+add-i c = search needs
+
+loop-less : tie.Need-loop-less Inv-loop μ-loop
+loop-less c = search needs
+
+loop-again : tie.Need-loop-again Inv-loop μ-loop
+loop-again c =
+    let k = c .before .before in
+    let t = k .before .before .before .before .before in
+    let s = t .before .before in
+    let i = t .before .loop .i in
+    let e = t .before .loop .inv .1 in (
+      search needs,
+      ⊎-elim
+          (λ w.
+          let sy = y-storage k ∙ eq-eqb _ _ (w .0 .taken) in
+          let sx = x-storage k ∙ not-true _ (w .2 .taken) in
+          w .11 ∙ driven-step (s .args .t1) (s .args .on .now) (s .args .value) (s .pre .0) i (t .loop-test .taken) sy sx (owned (k .before)) (label k sx) (place k sy sx) (w .5 .ensures) (w .6 .ensures) e (w .9 .ensures))
+          (λ w. w .1 ∙ ⊎-elim
+          (λ v. driven-inner (s .args .t1) (s .args .on .now) (s .args .value) i (x-storage k ∙ not-false _ (v .2 .left)) e)
+          (λ v. driven-outer (s .args .t1) (s .args .on .now) (s .args .value) i (y-storage k ∙ ne-eqb _ _ (v .left)) e)
+          (w .0 .came))
+          (c .if1 .came),
+    )
+
+returns : tie.Need-returns Inv-loop μ-loop
+returns c =
+    let s = c .before .before in
+    let q : c .before .loop .i ≡ s .args .t1 .«edge_count» = omega arith in
+    rw q at (c .before .loop .inv .1) ∙ driven-all _ _ _
+
+pub driven-spec : {M : Type 1} → statement M
+driven-spec =
+    tie.close
+    (tie.spec
+    Inv-loop
+    μ-loop
+    cast-count
+    loop-holds
+    mul-edge
+    element-copy-out-edge
+    cast-flag
+    element-copy-out-flag
+    chosen-requires
+    cast-y
+    chosen-requires-2
+    cast-x
+    element-copy-out-if1
+    element-copy-out-if2
+    mul-label
+    element-copy-out-label
+    mul-p
+    cast-p
+    add-p
+    element-copy-out-p
+    label-hits-requires
+    label-hits-requires-2
+    slice-aggregate-mark-row
+    cast-mark-row
+    mark-row-requires
+    add-i
+    loop-less
+    loop-again
+    returns)

@@ -1,0 +1,120 @@
+//! Connections to input vertices, in lanes. Definitions and laws are those of the crate `excitations`.
+use graph::tables;
+use net::Kind;
+use net::Net;
+use net::Symbol;
+ghost use mathlib.Core.Path.{_≡_};
+ghost use lib.Dec.{eqb};
+ghost use Rattle.ternary.specs.Bits.{digit};
+ghost use Rattle.net.specs.Symbols.{decode};
+ghost use Rattle.net.specs.Tables.{Readable, storageFlags, inputLabels};
+ghost use Rattle.lanes.specs.Lanes as lane-spec;
+ghost use Rattle.excitations.specs.Fit.{Fit};
+ghost use Rattle.excitations.specs.Conditions.{signalPlaces, symbolAt};
+ghost use Rattle.excitations.specs.Connections.{connectedLanes};
+ghost use Rattle.excitations.specs.Sweeps as spec;
+
+// 1 if a label has the value where its signal has the value `bit`, else 0.
+fn label_hits(label: u16, bit: u8, value: u8) -> u8
+    ensures { λ r. ⌜ r ≡ digit (eqb (symbolAt (decode label) bit) value) ⌝ }
+{
+    tables::equal(conditions::symbol_at(symbols::decoded(label), bit), value)
+}
+
+// Marks where an edge that is on joins a storage vertex to an input vertex of the value.
+fn driven<'a>(
+    net: Net,
+    storage: &'a [u8; Net::VERTEX_PLACES],
+    inputs: &'a [u16; Net::VERTEX_PLACES],
+    places: &'a [u8; Net::SYMBOL_PLACES],
+    columns: &'a [u8; Net::COLUMN_LANES],
+    on: &'a [u8; Net::EDGE_LANES],
+    value: u8,
+) -> [u8; Net::VERTEX_LANES]
+    requires { ⌜ Fit net × (now storage ≡ storageFlags net) × (now inputs ≡ inputLabels net) × (now places ≡ signalPlaces net) × (now columns ≡ lane-spec.columns) ⌝ }
+    ensures { λ r. ⌜ r ≡ spec.drivenLanes net (now (on .entry)) value ⌝ }
+{
+    let mut marks = [0u8; Net::VERTEX_LANES];
+    let count = net.edge_count as usize;
+    for i in 0..count {
+        let edge = net.edges[i];
+        let flag = storage[edge.end1 as usize];
+        let y = lanes::chosen(edge.end2, edge.end1, flag) as usize;
+        let x = lanes::chosen(edge.end1, edge.end2, flag) as usize;
+        if storage[y] == 1 && storage[x] != 1 {
+            let label = inputs[x];
+            let p = places[y * Symbol::BOUND + label as usize];
+            let low = label_hits(label, 0, value);
+            let high = label_hits(label, 1, value);
+            lanes::mark_row(&mut marks, y, on, i, columns, p as usize, low, high);
+        }
+    }
+    marks
+}
+
+// Each edge between storage vertices that is on carries the mark of either end to the other, one edge after the other.
+fn sweep<'a, 'b>(
+    marks: &'a mut [u8; Net::VERTEX_LANES],
+    net: Net,
+    storage: &'b [u8; Net::VERTEX_PLACES],
+    on: &'b [u8; Net::EDGE_LANES],
+)
+    requires { ⌜ Readable net × (now storage ≡ storageFlags net) ⌝ }
+    ensures { λ r. ⌜ now (marks .exit) ≡ spec.sweep net (now (on .entry)) (net .«edge_count») (now (marks .entry)) ⌝ }
+{
+    let count = net.edge_count as usize;
+    for i in 0..count {
+        let edge = net.edges[i];
+        let u = edge.end1 as usize;
+        let v = edge.end2 as usize;
+        if storage[u] == 1 && storage[v] == 1 {
+            lanes::raise_row(marks, u, v, on, i);
+            lanes::raise_row(marks, v, u, on, i);
+        }
+    }
+}
+
+// Is there no mark left to carry?
+fn is_closed<'a>(
+    marks: &'a [u8; Net::VERTEX_LANES],
+    net: Net,
+    storage: &'a [u8; Net::VERTEX_PLACES],
+    on: &'a [u8; Net::EDGE_LANES],
+) -> bool
+    requires { ⌜ Readable net × (now storage ≡ storageFlags net) ⌝ }
+    ensures { λ r. ⌜ r ≡ spec.isClosed net (now (on .entry)) (now (marks .entry)) ⌝ }
+{
+    let count = net.edge_count as usize;
+    for i in 0..count {
+        let edge = net.edges[i];
+        let first = edge.end1 as usize;
+        let second = edge.end2 as usize;
+        if storage[first] == 1 && storage[second] == 1 {
+            if !lanes::is_level(marks, first, second, on, i) {
+                return false;
+            }
+        }
+    }
+    true
+}
+
+// 1 where a storage vertex has a connection of a kind to an input vertex of the value.
+pub fn connected_lanes<'a>(
+    net: Net,
+    storage: &'a [u8; Net::VERTEX_PLACES],
+    inputs: &'a [u16; Net::VERTEX_PLACES],
+    places: &'a [u8; Net::SYMBOL_PLACES],
+    columns: &'a [u8; Net::COLUMN_LANES],
+    kind: Kind,
+    value: u8,
+) -> [u8; Net::VERTEX_LANES]
+    requires { ⌜ Fit net × (now storage ≡ storageFlags net) × (now inputs ≡ inputLabels net) × (now places ≡ signalPlaces net) × (now columns ≡ lane-spec.columns) ⌝ }
+    ensures { λ r. ⌜ r ≡ connectedLanes net kind value ⌝ }
+{
+    let on = conditions::usable_lanes(net, storage, places, columns, kind);
+    let mut marks = driven(net, storage, inputs, places, columns, &on, value);
+    while !is_closed(&marks, net, storage, &on) {
+        sweep(&mut marks, net, storage, &on);
+    }
+    marks
+}

@@ -1,0 +1,103 @@
+//! The tables: excitations and fights of every storage vertex, in lanes. Definitions and laws are those of the crate `excitations`.
+use graph::tables;
+use net::Kind;
+use net::Net;
+ghost use mathlib.Core.Path.{_≡_};
+ghost use mathlib.Core.Bool.{_&&_};
+ghost use Prim.Native.Nat.{suc, _*_};
+ghost use lib.Dec.{eqb};
+ghost use lib.ListN.{length, getD};
+ghost use Rattle.ternary.specs.Bits.{digit};
+ghost use Rattle.ternary.specs.Lists.{table};
+ghost use Rattle.net.specs.Limits.{mostVertices};
+ghost use Rattle.net.specs.Excitation.{excitationOf};
+ghost use Rattle.lanes.specs.Lanes.{assignments};
+ghost use Rattle.excitations.specs.Fit.{Fit};
+ghost use Rattle.excitations.specs.Excitations.{excitationLanes, fightLanes};
+
+// n0, c0: an n-connection, a connection to 0. p1, c1: a p-connection, a connection to 1.
+fn excited(n0: u8, c0: u8, p1: u8, c1: u8) -> u8
+    ensures { λ r. ⌜ r ≡ excitationOf (eqb n0 1) (eqb c0 1) (eqb p1 1) (eqb c1 1) ⌝ }
+{
+    if c1 == 1 {
+        if c0 == 1 {
+            return 2;
+        }
+        return if p1 == 1 { 1 } else { 2 };
+    }
+    if n0 == 1 {
+        return 0;
+    }
+    if c0 == 1 {
+        return 2;
+    }
+    if p1 == 1 { 1 } else { 3 }
+}
+
+// The excitations that four tables of connections give, lane by lane.
+fn combine<'a, 'b>(
+    excitations: &'a mut [u8; Net::VERTEX_LANES],
+    n0: &'b [u8; Net::VERTEX_LANES],
+    c0: &'b [u8; Net::VERTEX_LANES],
+    p1: &'b [u8; Net::VERTEX_LANES],
+    c1: &'b [u8; Net::VERTEX_LANES],
+)
+    requires { ⌜ length (now excitations) ≡ suc mostVertices * assignments ⌝ }
+    ensures { λ r. ⌜ now (excitations .exit) ≡ table (suc mostVertices * assignments) (λ i. excitationOf (eqb (getD (now (n0 .entry)) i 0) 1) (eqb (getD (now (c0 .entry)) i 0) 1) (eqb (getD (now (p1 .entry)) i 0) 1) (eqb (getD (now (c1 .entry)) i 0) 1)) ⌝ }
+{
+    for i in 0..Net::VERTEX_LANES {
+        excitations[i] = excited(n0[i], c0[i], p1[i], c1[i]);
+    }
+}
+
+// 1 where both tables have 1.
+fn meet<'a, 'b>(
+    fights: &'a mut [u8; Net::VERTEX_LANES],
+    c0: &'b [u8; Net::VERTEX_LANES],
+    c1: &'b [u8; Net::VERTEX_LANES],
+)
+    requires { ⌜ length (now fights) ≡ suc mostVertices * assignments ⌝ }
+    ensures { λ r. ⌜ now (fights .exit) ≡ table (suc mostVertices * assignments) (λ i. digit (eqb (getD (now (c0 .entry)) i 0) 1 && eqb (getD (now (c1 .entry)) i 0) 1)) ⌝ }
+{
+    for i in 0..Net::VERTEX_LANES {
+        fights[i] = tables::both(c0[i], c1[i]);
+    }
+}
+
+// The excitations and the fights of every storage vertex, at every assignment of its component's signals.
+pub fn fill<'a>(
+    net: Net,
+    excitations: &'a mut [u8; Net::VERTEX_LANES],
+    fights: &'a mut [u8; Net::VERTEX_LANES],
+)
+    requires { ⌜ Fit net × (length (now excitations) ≡ suc mostVertices * assignments) × (length (now fights) ≡ suc mostVertices * assignments) ⌝ }
+    ensures { λ r. ⌜ (now (excitations .exit) ≡ excitationLanes net) × (now (fights .exit) ≡ fightLanes net) ⌝ }
+{
+    let storage = tables::storage_flags(net);
+    let labels = tables::component_labels(net, &storage);
+    let inputs = signals::input_labels(net);
+    let places = conditions::signal_places(net, &storage, &labels);
+    let columns = lanes::columns();
+    let c0 = connections::connected_lanes(net, &storage, &inputs, &places, &columns, Kind::Any, 0);
+    let c1 = connections::connected_lanes(net, &storage, &inputs, &places, &columns, Kind::Any, 1);
+    let n0 = connections::connected_lanes(
+        net,
+        &storage,
+        &inputs,
+        &places,
+        &columns,
+        Kind::NType,
+        0,
+    );
+    let p1 = connections::connected_lanes(
+        net,
+        &storage,
+        &inputs,
+        &places,
+        &columns,
+        Kind::PType,
+        1,
+    );
+    combine(excitations, &n0, &c0, &p1, &c1);
+    meet(fights, &c0, &c1);
+}
