@@ -1,0 +1,4 @@
+pub mod TernaryTables
+pub mod Additions
+pub mod LookUps
+pub mod Passing
