@@ -1,0 +1,12 @@
+pub mod Examples
+pub mod SettleLaws
+pub mod BatchLaws
+pub mod NumberLaws
+pub mod Parts
+pub mod WritingLaws
+pub mod PassedLaws
+pub mod SettleSteps
+pub mod JobSteps
+pub mod PieceLaws
+pub mod JobsInTurn
+pub mod BatchSteps

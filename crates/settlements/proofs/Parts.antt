@@ -1,0 +1,32 @@
+-- Parts of lists: what follows a part that is all of its list, and a list with a part in its middle replaced.
+use Prim.Native.Nat.{ℕ, _+_, _-_, _≤_}
+use native.Mathlib.Omega.{arith}
+use mathlib.Core.Path.{_≡_, sym, ap, _∙_}
+use mathlib.Core.List.{List, _++_, append-assoc, append-nil}
+use lib.ListN.{length, take, drop, length-append, length-drop, drop-of-length-le}
+use lib.Seq.{take-at, drop-at, length-take-le}
+use borrow.Rule.Slice.PartMut.{putMid}
+
+-- the width of a part, as a part's ends give it
+pub part-width : (at w : ℕ) → at + w - at ≡ w
+part-width at w = omega arith
+
+pub nothing-after : (x l : List ℕ) (n : ℕ) → length l ≤ n → x ≡ x ++ drop n l
+nothing-after x l n h = rw (drop-of-length-le l {i = n} h, append-nil)
+
+-- what stands up to the end of the new part, what stands after it, and the length
+module _ (l p : List ℕ) (at w : ℕ) (fits : at + w ≤ length l) (size : length p ≡ w) where
+  front : length (take at l ++ p) ≡ at + w
+  front = simp (length-append, size, length-take-le at l (omega arith))
+
+  regroup : putMid at w l p ≡ (take at l ++ p) ++ drop w (drop at l)
+  regroup = sym (append-assoc (take at l) p (drop w (drop at l)))
+
+  pub part-taken : take (at + w) (putMid at w l p) ≡ take at l ++ p
+  part-taken = ap (take (at + w)) regroup ∙ take-at (take at l ++ p) (drop w (drop at l)) (at + w) front
+
+  pub part-dropped : drop (at + w) (putMid at w l p) ≡ drop w (drop at l)
+  part-dropped = ap (drop (at + w)) regroup ∙ drop-at (take at l ++ p) (drop w (drop at l)) (at + w) front
+
+  pub part-length : length (putMid at w l p) ≡ length l
+  part-length = ap length regroup ∙ simp (length-append (take at l ++ p), front, length-drop) (omega arith)

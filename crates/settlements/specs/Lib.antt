@@ -1,0 +1,4 @@
+pub mod Settle
+pub mod Batch
+pub mod Numbers
+pub mod Ready

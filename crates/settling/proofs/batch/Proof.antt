@@ -1,0 +1,69 @@
+-- `settling::batch` meets its contract: the record, then C1. Assumes nothing.
+use mathlib.Core.Path.{_≡_, sym, _∙_}
+use mathlib.Core.Bool.{true}
+use borrow.Author.Needs.{needs}
+use borrow.Author.Tests.{not-true, not-false}
+use Rattle.sheet.specs.Valid.{valid}
+use Rattle.troubles.proofs.FitLaws.{valid-fit}
+use Rattle.sheet.proofs.SearchLaws.{found-none}
+use Rattle.settlements.proofs.BatchSteps.{bad-record, breaks-c1}
+use Rattle.settling.proofs.batch.Statement.{statement}
+use Rattle.settling.proofs.batch.Tie as tie
+
+-- the record has passed
+valid-record : (c : tie.Else1) → valid (c .before .before .before .before .before .args .net) ≡ true
+valid-record c = sym (c .before .is-record .ensures) ∙ not-false _ (c .if1 .left)
+
+is-record-requires : tie.Need-is-record-requires
+is-record-requires c κs = search needs
+
+returns : tie.Need-returns
+returns c = bad-record _ _ _ _ (sym (c .before .is-record .ensures) ∙ not-true _ (c .if1 .taken))
+
+lowest-break-requires : tie.Need-lowest-break-requires
+lowest-break-requires c κs = let h = valid-fit _ (valid-record (c .before .before)) in search needs
+
+enum-known-place : tie.Need-enum-known-place
+enum-known-place c = search needs
+
+enum-told : tie.Need-enum-told
+enum-told c = search needs
+
+batch-requires : tie.Need-batch-requires
+batch-requires c κs =
+    let told = c .before .before .before in
+    let found = told .before .before in (
+      valid-record (found .before .before .before),
+      found-none _ (sym (found .lowest-break .ensures .0) ∙ told .enum-told .given .1),
+      found .lowest-break .ensures .1,
+    )
+
+returns-2 : tie.Need-returns-2
+returns-2 c =
+    let place = c .before in
+    let found = place .before .before in
+    breaks-c1 _ _ _ _ (valid-record (found .before .before .before)) (sym (found .lowest-break .ensures .0) ∙ place .place .given .1)
+
+same-length : tie.Need-same-length
+same-length c = search needs
+
+same-length-2 : tie.Need-same-length-2
+same-length-2 c = search needs
+
+returns-3 : tie.Need-returns-3
+returns-3 c = search needs
+
+pub batch-spec : {M : Type 1} → statement M
+batch-spec =
+    tie.close
+    (tie.spec
+    is-record-requires
+    returns
+    lowest-break-requires
+    enum-known-place
+    enum-told
+    batch-requires
+    returns-2
+    same-length
+    same-length-2
+    returns-3)
