@@ -1,18 +1,16 @@
 -- Demand 2 over an accepted net, by the laws of the definitions.
-use Prim.Native.Nat.{ℕ, _≤_, _<_}
-use mathlib.Core.Path.{_≡_, refl, sym, ap, subst, _∙_}
+use Prim.Native.Nat.{ℕ, _≤_}
+use mathlib.Core.Path.{_≡_, refl, sym, subst}
 use mathlib.Core.Bool.{true}
 use mathlib.Core.Logic.{_↔_, Iff·trans}
-use mathlib.Core.List.{List, _++_}
-use lib.ListN.{length, take, drop}
-use lib.Seq.{take-at}
+use mathlib.Core.List.{List}
+use lib.ListN.{length}
 use Rattle.ternary.specs.Lists.{table}
 use Rattle.ternary.specs.Bits.{bit}
 use Rattle.ternary.specs.Passes as passes
-use Rattle.ternary.specs.Demand.{Premises}
 use Rattle.ternary.proofs.Passes.{first-ends, second-ends, second-signal, first-vector-length, second-vector-length}
 use Rattle.net.specs.declared.Net.{Net}
-use Rattle.net.specs.Graph.{isStorage, keyCount, keyVertex}
+use Rattle.net.specs.Graph.{isStorage, keyCount}
 use Rattle.net.specs.Excitation.{excitation}
 use Rattle.net.specs.Network.{network, Clean}
 use Rattle.net.specs.WellFormed.{C1, C2, WellFormed}
@@ -31,10 +29,12 @@ use Rattle.verdict.specs.Excited.{excitedOf}
 use Rattle.verdict.specs.Verdict.{verdictOf}
 use Rattle.verdict.proofs.ExcitedLaws.{excited-accepts}
 use Rattle.verdict.proofs.VerdictLaws.{LowestC1, LowestC3, verdict-0, verdict-31, verdict-32, verdict-33}
-use Rattle.settling.specs.Settle.{Settlement, written, settleOf}
-use Rattle.settling.proofs.SettleLaws.{settle-accepts}
-use Rattle.demands.specs.Demand2.{ExcitationMeans, PassMeans, PassesMean}
-use Rattle.demands.specs.Demand3.{Settles}
+use Rattle.settlements.specs.Settle.{written, settleOf}
+use Rattle.settlements.specs.Batch.{Batch}
+use Rattle.settlements.proofs.SettleLaws.{settle-accepts}
+use Rattle.demands.specs.Demand2.{ExcitationMeans, PassMeans, PassesMean, SettlePasses, JobPasses}
+use Rattle.demands.specs.Demand3.{Settles, JobPromise}
+use Rattle.demands.proofs.Vectors.{Holds, settle-holds, job-holds}
 use Rattle.demands.proofs.Demand3.{premises, startable, is-valid}
 
 -- ---- an accepted net
@@ -102,16 +102,17 @@ module _ {sheet : List ℕ} {N : Net} {A B q : ℕ} (s : Settles sheet N A B q) 
         unknown = λ k h. second-pass-unknown N known A B q (premises s) k h;
       }
 
-  -- DEMAND 2 of the passes, over the bytes written
-  pub demand2-passes : (R T : List ℕ) → keyCount N ≤ length R → keyCount N ≤ length T → PassesMean N A B q (settleOf N A B q R T)
-  unfolding written r t
-  demand2-passes R T hr ht = subst (PassesMean N A B q) (sym (settle-accepts N A B q (startable s) R T (is-valid s) (s .c1) hr ht)) (record {
-    first = rw taken-r first-means;
-    second = rw (taken-r, taken-t) second-means;
-  })
-    where
-      taken-r : take (keyCount N) (r ++ drop (keyCount N) R) ≡ r
-      taken-r = take-at r _ (keyCount N) (first-means .size)
+  holds-means : {first second : List ℕ} → Holds N A B q first second
+      → PassesMean N A B q (settled N A B q .firstSteps) (settled N A B q .secondSteps) first second
+  unfolding r t
+  holds-means v = record { first = rw (v .holds-r) first-means; second = rw (v .holds-r, v .holds-t) second-means }
 
-      taken-t : take (keyCount N) (t ++ drop (keyCount N) T) ≡ t
-      taken-t = take-at t _ (keyCount N) (second-means .size)
+  -- DEMAND 2 of the passes, over the counts and the bytes that settling gives
+  pub demand2-settle : (R T : List ℕ) → keyCount N ≤ length R → keyCount N ≤ length T → SettlePasses N A B q (settleOf N A B q R T)
+  unfolding written
+  demand2-settle R T hr ht = subst (SettlePasses N A B q) (sym (settle-accepts N A B q (startable s) R T (is-valid s) (s .c1) hr ht))
+      (holds-means (settle-holds N A B q R T))
+
+  -- and over those of a job of a batch
+  pub demand2-job : {n : ℕ} {S : Batch} → JobPromise N A B q n S → JobPasses N A B q n S
+  demand2-job p = rw (p .answers, p .results) (holds-means (job-holds N A B q))

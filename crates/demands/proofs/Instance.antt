@@ -1,86 +1,52 @@
--- Demands 2 and 3 on a real net with concrete buffers: no premise of theirs is empty.
+-- Demands 2 and 3 on real nets with concrete buffers: no premise of theirs is empty.
 -- In plain words (`nands-settle`): when the inputs of the report's three NANDs go from 11 to 00, from the key state 010, then in whatever order the key
 -- nodes switch, and whatever else is tried in between, once two rounds have closed under 00 the key state is 101.
 use Prim.Native.Nat.{ℕ, zero, suc, _≤_, _<_}
 use native.Mathlib.Omega.{arith}
-use mathlib.Core.Path.{_≡_, refl, subst}
-use mathlib.Core.Logic.{inl, inr}
-use mathlib.Core.List.{List, [], _∷_}
-use lib.Dec.{lit<, lit≤}
-use lib.ListN.{length}
+use mathlib.Core.Path.{_≡_, refl}
+use mathlib.Core.List.{List, [], _∷_, _++_}
+use lib.Dec.{lit<}
+use lib.ListN.{replicate}
 use Rattle.ternary.specs.Bits.{bit}
-use Rattle.ternary.specs.Signal.{X, Against, at}
+use Rattle.ternary.specs.Signal.{X, at}
 use Rattle.ternary.specs.Run.{Step}
-use Rattle.ternary.proofs.BitLaws.{bit-lt}
 use Rattle.net.specs.declared.Net.{Net}
 use Rattle.net.specs.Graph.{keyCount}
-use Rattle.net.proofs.WellFormed.{place-c1-none, stable-iff}
+use Rattle.sheet.specs.Record.{accepted}
+use Rattle.sheet.specs.Rows.{answer}
 use Rattle.sheet.specs.Reading.{readSheet}
-use Rattle.settling.specs.Settle.{Settlement, settling, settleOf}
-use Rattle.demands.specs.Nets.{threeNands}
-use Rattle.demands.specs.Demand2.{PassesMean}
-use Rattle.demands.specs.Demand3.{Settles, runOf, SettlePromise}
+use Rattle.sheet.specs.Text.{bytes}
+use Rattle.settlements.specs.Settle.{settling}
+use Rattle.settlements.specs.Batch.{Batch, batchOf}
+use Rattle.demands.specs.Nets.{worked, threeNands}
+use Rattle.demands.specs.Demand3.{runOf}
 use Rattle.demands.proofs.Opened.{opened}
-use Rattle.demands.proofs.Demand3.{demand3-settle}
-use Rattle.demands.proofs.Demand2.{demand2-passes}
+use Rattle.demands.proofs.Kept.{Kept, JobKept, settle-kept, job-kept, settles-at}
+
+-- what a buffer holds before the call: n bytes that no pass writes
+abbrev lent : ℕ → List ℕ
+lent n = replicate n 9
+
+-- ---- three NANDs, from 11 to 00, from 010; one buffer is longer than the net needs, the other just long enough
 
 pub nands : Net
 nands = readSheet threeNands .net
+
+nands-read : readSheet threeNands ≡ accepted nands
+unfolding opened nands
+nands-read = refl
+
+pub nands-kept : Kept threeNands nands 3 0 2 (lent 4) (lent 3) (record { answer = settling 0 0 2 2; r = X ∷ X ∷ X ∷ 9 ∷ []; t = 1 ∷ 0 ∷ 1 ∷ [] })
+unfolding opened nands
+nands-kept = settle-kept threeNands nands-read 3 0 2 (lent 4) (lent 3) refl refl
 
 three-keys : keyCount nands ≡ 3
 unfolding opened nands
 three-keys = refl
 
--- from 11 to 00, from 010
-pub nands-settles : Settles threeNands nands 3 0 2
-unfolding opened nands
-nands-settles = record {
-  reads = refl;
-  c1 = place-c1-none nands .0 refl;
-  old = lit< tt;
-  new = lit< tt;
-  key = lit< tt;
-  rest = stable-iff nands 3 2 .0 refl;
-}
-
--- a buffer longer than the net needs, and one just long enough
-pub R : List ℕ
-R = 9 ∷ 9 ∷ 9 ∷ 9 ∷ []
-
-pub T : List ℕ
-T = 9 ∷ 9 ∷ 9 ∷ []
-
-R-room : keyCount nands ≤ length R
-unfolding R
-R-room = rw three-keys (lit≤ tt)
-
-T-room : keyCount nands ≤ length T
-unfolding T
-T-room = rw three-keys (lit≤ tt)
-
-pub nands-written : settleOf nands 3 0 2 R T ≡ record { answer = settling 0 0 2 2; r = X ∷ X ∷ X ∷ 9 ∷ []; t = 1 ∷ 0 ∷ 1 ∷ [] }
-unfolding opened nands R T
-nands-written = refl
-
-pub nands-promise : SettlePromise nands 3 0 2 R T (settleOf nands 3 0 2 R T)
-nands-promise = demand3-settle nands-settles R T R-room T-room
-
-pub nands-passes : PassesMean nands 3 0 2 (settleOf nands 3 0 2 R T)
-nands-passes = demand2-passes nands-settles R T R-room T-room
-
--- a binary value that is not against a binary signal equals it
-equals : (s v : ℕ) → s < 2 → v < 2 → ¬ Against s v → v ≡ s
-equals zero zero hs hv f = refl
-equals zero (suc zero) hs hv f = absurd (f (inl (refl, refl)))
-equals (suc zero) zero hs hv f = absurd (f (inr (refl, refl)))
-equals (suc zero) (suc zero) hs hv f = refl
-equals zero (suc (suc v)) hs hv f = absurd (omega arith)
-equals (suc zero) (suc (suc v)) hs hv f = absurd (omega arith)
-equals (suc (suc s)) v hs hv f = absurd (omega arith)
-
 pub nands-settle : (steps : List Step) → 2 ≤ runOf nands 3 0 2 steps .rounds
     → (k : ℕ) → k < 3 → bit (runOf nands 3 0 2 steps .key) k ≡ at (1 ∷ 0 ∷ 1 ∷ []) k
-nands-settle steps enough k h = equals (at (1 ∷ 0 ∷ 1 ∷ []) k) (bit (runOf nands 3 0 2 steps .key) k) (binary k h) (bit-lt _ k) (promised k h)
+nands-settle steps enough k h = settles-at nands-kept k (rw three-keys h) (binary k h) steps enough
   where
     binary : (k : ℕ) → k < 3 → at (1 ∷ 0 ∷ 1 ∷ []) k < 2
     binary zero h = lit< tt
@@ -88,10 +54,41 @@ nands-settle steps enough k h = equals (at (1 ∷ 0 ∷ 1 ∷ []) k) (bit (runOf
     binary (suc (suc zero)) h = lit< tt
     binary (suc (suc (suc k))) h = absurd (omega arith)
 
-    promised : (k : ℕ) → k < 3 → ¬ Against (at (1 ∷ 0 ∷ 1 ∷ []) k) (bit (runOf nands 3 0 2 steps .key) k)
-    promised k h =
-        subst
-        (λ (s : Settlement). s .answer .«second_steps» ≤ runOf nands 3 0 2 steps .rounds → ¬ Against (at (s .t) k) (bit (runOf nands 3 0 2 steps .key) k))
-        nands-written
-        (λ e. nands-promise .promise .second steps e k (rw three-keys h))
-        enough
+-- ---- document 01's worked net
+
+pub workedNet : Net
+workedNet = readSheet worked .net
+
+worked-read : readSheet worked ≡ accepted workedNet
+unfolding opened workedNet
+worked-read = refl
+
+-- A, B, q of 0, 1, 1: X in 1 step, then X in 0
+pub worked-kept : Kept worked workedNet 0 1 1 (lent 2) (lent 1) (record { answer = settling 0 0 1 0; r = X ∷ 9 ∷ []; t = X ∷ [] })
+unfolding opened workedNet
+worked-kept = settle-kept worked worked-read 0 1 1 (lent 2) (lent 1) refl refl
+
+-- its four jobs in one batch, with result bytes for just as many and answer bytes for one more
+pub jobs : List ℕ
+jobs = bytes "   4   0   1   1   0\n" ++ bytes "   4   0   0   1   0\n" ++ bytes "   4   1   0   1   0\n" ++ bytes "   4   2   0   1   0\n"
+
+abbrev batch : Batch
+batch = record {
+  answer = answer 0 0;
+  buffers = record {
+    results = X ∷ X ∷ 1 ∷ 1 ∷ 9 ∷ 9 ∷ 9 ∷ 9 ∷ [];
+    answers = 0 ∷ 1 ∷ 0 ∷ 0 ∷ 0 ∷ 0 ∷ 44 ∷ 0 ∷ 0 ∷ 42 ∷ 0 ∷ 0 ∷ 9 ∷ 9 ∷ 9 ∷ [];
+  };
+}
+
+pub batch-runs : batchOf workedNet jobs (lent 8) (lent 15) ≡ batch
+unfolding opened workedNet jobs
+batch-runs = refl
+
+pub job-1-kept : JobKept worked workedNet 0 1 1 0 batch
+unfolding opened workedNet jobs
+job-1-kept = job-kept worked worked-read 0 1 1 0 jobs (lent 8) (lent 15) batch-runs refl (lit< tt) refl refl
+
+pub job-2-kept : JobKept worked workedNet 0 0 1 1 batch
+unfolding opened workedNet jobs
+job-2-kept = job-kept worked worked-read 0 0 1 1 jobs (lent 8) (lent 15) batch-runs refl (lit< tt) refl refl

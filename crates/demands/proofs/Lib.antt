@@ -1,5 +1,11 @@
 pub mod Opened
 pub mod Table
+pub mod Fit
+pub mod Unplaced
+pub mod JobRows
+pub mod Demand1
+pub mod Vectors
 pub mod Demand3
 pub mod Demand2
+pub mod Kept
 pub mod Instance

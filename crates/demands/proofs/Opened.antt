@@ -5,8 +5,11 @@ use Rattle.ternary.specs.Passes.{settleBy, mix, firstPass, secondPass, settled}
 use Rattle.sheet.specs.Rows.{byRows}
 use Rattle.sheet.proofs.Sheets.{open-all}
 use Rattle.verdict.specs.Excited.{excitationRows, excitedOf}
-use Rattle.settling.specs.Settle.{written, settleUnder, settleRows, settleOf}
+use Rattle.settlements.specs.Settle.{written, settleUnder, settleRows, settleOf}
+use Rattle.settlements.specs.Batch.{jobCount, pieces, jobRows, jobSettlement, runJobs, batchRows, batchOf}
 
 unfoldable pub opened : Unit {0}
-unfolding open-all every common H settleBy mix firstPass secondPass settled byRows excitationRows excitedOf written settleUnder settleRows settleOf
+unfolding
+    open-all every common H settleBy mix firstPass secondPass settled byRows excitationRows excitedOf written settleUnder settleRows settleOf
+    jobCount pieces jobRows jobSettlement runJobs batchRows batchOf
 opened = tt

@@ -3,7 +3,7 @@ use Prim.Native.Nat.{ℕ, _<_}
 use mathlib.Core.Path.{_≡_}
 use mathlib.Core.Logic.{_↔_}
 use mathlib.Core.List.{List}
-use lib.ListN.{length, take}
+use lib.ListN.{length, take, drop}
 use Rattle.ternary.specs.Lists.{table}
 use Rattle.ternary.specs.Bits.{bit}
 use Rattle.ternary.specs.Signal.{X, Signal, at}
@@ -14,7 +14,9 @@ use Rattle.net.specs.Graph.{keyCount, keyVertex}
 use Rattle.net.specs.Walks.{ExcitedTo0, ExcitedTo1, Floating}
 use Rattle.net.specs.Network.{network}
 use Rattle.net.specs.Ternary.{SignalsDisagree}
-use Rattle.settling.specs.Settle.{Settlement}
+use Rattle.settlements.specs.Settle.{Settlement}
+use Rattle.settlements.specs.Batch.{Batch}
+use Rattle.demands.specs.Demand1.{resultOf, answerOf}
 
 -- v is the excitation of storage vertex y: each value exactly in document 01's case
 pub record ExcitationMeans (N : Net) (a q y v : ℕ) : Type 0 where
@@ -31,8 +33,19 @@ pub record PassMeans (N : Net) (p from v : List ℕ) (steps : ℕ) : Type 0 wher
   pub signals : (k : ℕ) → k < keyCount N → Signal (at v k)
   pub unknown : (k : ℕ) → k < keyCount N → (at v k ≡ X) ↔ SignalsDisagree N p v (keyVertex N k)
 
--- the h bytes that settling wrote to each buffer are the two passes: the first from q with X where A and B differ, the second under B from the first's
--- last vector
-pub record PassesMean (N : Net) (A B q : ℕ) (S : Settlement) : Type 0 where
-  pub first : PassMeans N (mix (N .«letter_count») A B) (table (keyCount N) (bit q)) (take (keyCount N) (S .r)) (S .answer .«first_steps»)
-  pub second : PassMeans N (table (N .«letter_count») (bit B)) (take (keyCount N) (S .r)) (take (keyCount N) (S .t)) (S .answer .«second_steps»)
+-- the first h bytes of two buffers are the two passes, with their step counts: the first from q with X where A and B differ, the second under B from the
+-- first's last vector
+pub record PassesMean (N : Net) (A B q : ℕ) (firstSteps secondSteps : ℕ) (r t : List ℕ) : Type 0 where
+  pub first : PassMeans N (mix (N .«letter_count») A B) (table (keyCount N) (bit q)) (take (keyCount N) r) firstSteps
+  pub second : PassMeans N (table (N .«letter_count») (bit B)) (take (keyCount N) r) (take (keyCount N) t) secondSteps
+
+-- over what settling gives
+abbrev pub SettlePasses : Net → ℕ → ℕ → ℕ → Settlement → Type 0
+SettlePasses N A B q S = PassesMean N A B q (S .answer .«first_steps») (S .answer .«second_steps») (S .r) (S .t)
+
+-- and over the bytes of job n, from 0, of a batch
+abbrev pub JobPasses : Net → ℕ → ℕ → ℕ → ℕ → Batch → Type 0
+JobPasses N A B q n S =
+    let three = answerOf n (S .buffers .answers) in
+    let own = resultOf N n (S .buffers .results) in
+    PassesMean N A B q (at three 1) (at three 2) own (drop (keyCount N) own)

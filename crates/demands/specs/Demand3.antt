@@ -1,8 +1,8 @@
 -- Demand 3: what settling wrote is never against any run, whatever order the race takes.
-use Prim.Native.Nat.{ℕ, _+_, _*_, _^_, _≤_, _<_}
+use Prim.Native.Nat.{ℕ, _^_, _≤_, _<_}
 use mathlib.Core.Path.{_≡_}
 use mathlib.Core.List.{List, [], _∷_, _++_}
-use lib.ListN.{take, drop}
+use lib.ListN.{drop}
 use Rattle.ternary.specs.Bits.{bit}
 use Rattle.ternary.specs.Signal.{Against, at}
 use Rattle.ternary.specs.Run.{Run, Step, start, runAll}
@@ -14,8 +14,9 @@ use Rattle.net.specs.Ternary.{settled}
 use Rattle.sheet.specs.Rows.{answer}
 use Rattle.sheet.specs.Record.{accepted}
 use Rattle.sheet.specs.Reading.{readSheet}
-use Rattle.settling.specs.Settle.{Settlement}
-use Rattle.settling.specs.Batch.{jobWidth, answerWidth, Batch}
+use Rattle.settlements.specs.Settle.{Settlement}
+use Rattle.settlements.specs.Batch.{Batch}
+use Rattle.demands.specs.Demand1.{resultOf, answerOf}
 
 -- an accepted net that meets C1, an old and a new input state, and a start that is stable under the old
 pub record Settles (sheet : List ℕ) (N : Net) (A B q : ℕ) : Type 0 where
@@ -48,10 +49,10 @@ pub record SettlePromise (N : Net) (A B q : ℕ) (R T : List ℕ) (S : Settlemen
   pub t-written : S .t ≡ settled N A B q .t ++ drop (keyCount N) T
   pub promise : Promise N A B q (S .answer .number) (S .answer .«second_steps») (S .r) (S .t)
 
--- what a batch promises of its job n, from 0: its three answer bytes, and its r and then its t in its own bytes
+-- what a batch promises of its job n, from 0: its own bytes are r and then t, and its three answer bytes are 0 and the step counts
 pub record JobPromise (N : Net) (A B q n : ℕ) (S : Batch) : Type 0 where
   pub answer : S .answer ≡ answer 0 0
-  pub answers : take answerWidth (drop (n * answerWidth) (S .buffers .answers))
-      ≡ 0 ∷ settled N A B q .firstSteps ∷ settled N A B q .secondSteps ∷ []
-  pub promise : Promise N A B q 0 (settled N A B q .secondSteps)
-      (drop (n * jobWidth N) (S .buffers .results)) (drop (n * jobWidth N + keyCount N) (S .buffers .results))
+  pub answers : answerOf n (S .buffers .answers) ≡ 0 ∷ settled N A B q .firstSteps ∷ settled N A B q .secondSteps ∷ []
+  pub results : resultOf N n (S .buffers .results) ≡ settled N A B q .r ++ settled N A B q .t
+  pub promise : Promise N A B q (at (answerOf n (S .buffers .answers)) 0) (at (answerOf n (S .buffers .answers)) 2)
+      (resultOf N n (S .buffers .results)) (drop (keyCount N) (resultOf N n (S .buffers .results)))

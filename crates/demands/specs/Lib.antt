@@ -1,4 +1,5 @@
 pub mod Nets
 pub mod Table
+pub mod Demand1
 pub mod Demand2
 pub mod Demand3

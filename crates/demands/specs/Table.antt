@@ -10,7 +10,7 @@ use Rattle.sheet.specs.Text.{bytes}
 use Rattle.verdict.specs.declared.Excited.{Excited}
 use Rattle.verdict.specs.declared.Excited.the-variants.{Value, Refused as NoValue}
 use Rattle.verdict.specs.Excited.{excitedOf}
-use Rattle.settling.specs.Settle.{settleOf}
+use Rattle.settlements.specs.Settle.{settleOf}
 use Rattle.demands.specs.Nets.{worked, norGate, threeNands, norLatch}
 
 pub data Question : Type 0 where

@@ -1,0 +1,88 @@
+-- Whoever is answered 0 has demands 2 and 3 kept, with no further premise: that the net meets C1, that the states are fit and that the buffers are long
+-- enough follows from the answer.
+use Prim.Native.Nat.{ℕ, zero, suc, _≤_, _<_}
+use native.Mathlib.Omega.{arith}
+use mathlib.Core.Path.{_≡_, refl, ap, subst, _∙_}
+use mathlib.Core.Logic.{inl, inr}
+use mathlib.Core.List.{List}
+use Rattle.ternary.specs.Bits.{bit}
+use Rattle.ternary.specs.Signal.{Against, at}
+use Rattle.ternary.specs.Run.{Step}
+use Rattle.ternary.proofs.BitLaws.{bit-lt}
+use Rattle.net.specs.declared.Net.{Net}
+use Rattle.net.specs.Graph.{keyCount}
+use Rattle.net.specs.WellFormed.{C1}
+use Rattle.sheet.specs.declared.JobLine.the-variants.{Asked}
+use Rattle.sheet.specs.Rows.{NoRow}
+use Rattle.sheet.specs.Rows.NoRow.{next}
+use Rattle.sheet.specs.Record.{accepted}
+use Rattle.sheet.specs.Reading.{readSheet}
+use Rattle.sheet.specs.Job.{jobOf}
+use Rattle.settlements.specs.Settle.{Settlement, settleOf}
+use Rattle.settlements.specs.Batch.{jobCount, Batch, jobRows, batchOf}
+use Rattle.settlements.proofs.SettleLaws.{Startable, settle-zero}
+use Rattle.settlements.proofs.BatchLaws.{batch-zero}
+use Rattle.demands.specs.Demand1.{lineOf, answerOf, jobLineRows}
+use Rattle.demands.specs.Demand2.{SettlePasses, JobPasses}
+use Rattle.demands.specs.Demand3.{Settles, runOf, SettlePromise, JobPromise}
+use Rattle.demands.proofs.Fit.{job-fit, settle-fit, batch-fit}
+use Rattle.demands.proofs.Demand1.{demand1-job}
+use Rattle.demands.proofs.Demand2.{demand2-settle, demand2-job}
+use Rattle.demands.proofs.Demand3.{demand3-settle, demand3-job}
+
+-- all that is promised of one settling on the net of a sheet
+pub record Kept (sheet : List ℕ) (N : Net) (A B q : ℕ) (R T : List ℕ) (S : Settlement) : Type 0 where
+  pub settles : Settles sheet N A B q
+  pub promise : SettlePromise N A B q R T S
+  pub passes : SettlePasses N A B q S
+
+-- and of job n, from 0, of a batch
+pub record JobKept (sheet : List ℕ) (N : Net) (A B q n : ℕ) (S : Batch) : Type 0 where
+  pub settles : Settles sheet N A B q
+  pub promise : JobPromise N A B q n S
+  pub passes : JobPasses N A B q n S
+
+module _ (sheet : List ℕ) {N : Net} (reads : readSheet sheet ≡ accepted N) where
+  settles-of : (A B q : ℕ) → C1 N → Startable N A B q → Settles sheet N A B q
+  settles-of A B q c1 s = record { reads = reads; c1 = c1; old = s .old .input; new = s .new .input; key = s .old .key; rest = s .rest }
+
+  pub settle-kept : (A B q : ℕ) (R T : List ℕ) {S : Settlement} → settleOf N A B q R T ≡ S → S .answer .number ≡ 0 → Kept sheet N A B q R T S
+  settle-kept A B q R T e ok =
+      let fit = settle-fit N A B q R T (settle-zero N A B q R T .0 (ap (λ (s : Settlement). s .answer .number) e ∙ ok)) in
+      let s = settles-of A B q (fit .c1) (fit .startable) in
+      subst (Kept sheet N A B q R T) e (record {
+        settles = s;
+        promise = demand3-settle s R T (fit .r-room) (fit .t-room);
+        passes = demand2-settle s R T (fit .r-room) (fit .t-room);
+      })
+
+  -- the batch is answered 0, and the job's own number is 0
+  pub job-kept : (A B q n : ℕ) (jobs results answers : List ℕ) {S : Batch} → batchOf N jobs results answers ≡ S → S .answer .number ≡ 0
+      → n < jobCount jobs → jobOf (lineOf n jobs) ≡ Asked A B q → at (answerOf n (S .buffers .answers)) 0 ≡ 0 → JobKept sheet N A B q n S
+  job-kept A B q n jobs results answers e ok h asked job-ok =
+      let whole = ap (λ (b : Batch). b .answer .number) e ∙ ok in
+      let fit = batch-fit N (jobCount jobs) results answers (batch-zero N jobs results answers .0 whole) in
+      let number = ap (λ (b : Batch). at (answerOf n (b .buffers .answers)) 0) e ∙ job-ok in
+      let passed = rw asked at (demand1-job N jobs results answers n h whole .answered .fit .0 number) in
+      let s = settles-of A B q (fit .c1) (job-fit N A B q (rows-of passed)) in
+      let promise = demand3-job s jobs results answers n h asked (fit .results-room) (fit .answers-room) in
+      subst (JobKept sheet N A B q n) e (record { settles = s; promise = promise; passes = demand2-job s promise })
+    where
+      rows-of : NoRow (jobLineRows N (Asked A B q)) → NoRow (jobRows N A B q)
+      rows-of (next _ f) = f
+
+-- a binary value that is not against a binary signal equals it
+equals : (s v : ℕ) → s < 2 → v < 2 → ¬ Against s v → v ≡ s
+equals zero zero hs hv f = refl
+equals zero (suc zero) hs hv f = absurd (f (inl (refl, refl)))
+equals (suc zero) zero hs hv f = absurd (f (inr (refl, refl)))
+equals (suc zero) (suc zero) hs hv f = refl
+equals zero (suc (suc v)) hs hv f = absurd (omega arith)
+equals (suc zero) (suc (suc v)) hs hv f = absurd (omega arith)
+equals (suc (suc s)) v hs hv f = absurd (omega arith)
+
+-- where the second pass left a 0 or 1, that is the key node's value once as many rounds have closed as that pass counted steps
+pub settles-at : {sheet : List ℕ} {N : Net} {A B q : ℕ} {R T : List ℕ} {S : Settlement} → Kept sheet N A B q R T S
+    → (k : ℕ) → k < keyCount N → at (S .t) k < 2
+    → (steps : List Step) → S .answer .«second_steps» ≤ runOf N A B q steps .rounds → bit (runOf N A B q steps .key) k ≡ at (S .t) k
+settles-at kept k h binary steps enough = equals _ _ binary (bit-lt _ k) (kept .promise .promise .second steps enough k h)

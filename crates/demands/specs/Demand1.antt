@@ -1,0 +1,58 @@
+-- Demand 1: what is wrong gets document 01's number for it, in the order of its rows, and changes no byte lent; what is fit gets none.
+-- That a call finishes is part of its proof. The rows of each call stand beside the definition of what it answers.
+use Prim.Native.Nat.{ℕ, _*_, _≤_}
+use mathlib.Core.Path.{_≡_}
+use mathlib.Core.Logic.{_↔_}
+use mathlib.Core.List.{List, [], _∷_}
+use mathlib.Core.Option.{none, some}
+use lib.ListN.{take, drop}
+use Rattle.ternary.specs.Signal.{at}
+use Rattle.net.specs.declared.Net.{Net}
+use Rattle.sheet.specs.declared.Answer.{Answer}
+use Rattle.sheet.specs.declared.JobLine.{JobLine}
+use Rattle.sheet.specs.declared.JobLine.the-variants.{Asked, Refused}
+use Rattle.sheet.specs.Limits.{lineWidth}
+use Rattle.sheet.specs.Rows.{answer, Row, row, First, NoRow}
+use Rattle.sheet.specs.Job.{jobOf, jobNumber}
+use Rattle.settlements.specs.Settle.{Settlement, unsettled, settleRows}
+use Rattle.settlements.specs.Batch.{jobCount, jobWidth, answerWidth, jobRows, Batch, batchRows}
+
+-- a call answers by its rows: number 0 exactly if no row's condition holds, and a number with its place exactly if its row is the first that holds
+pub record Answers (rows : List Row) (given : Answer) : Type 0 where
+  pub fit : (given .number ≡ 0) ↔ NoRow rows
+  pub wrong : (n p : ℕ) → 1 ≤ n → (given ≡ answer n p) ↔ First rows n p
+
+-- settling: a refusal has counts 0 and leaves both buffers as they were
+pub record SettleAnswers (N : Net) (A B q : ℕ) (R T : List ℕ) (S : Settlement) : Type 0 where
+  pub answered : Answers (settleRows N A B q R T) (answer (S .answer .number) (S .answer .place))
+  pub untouched : (n p : ℕ) → First (settleRows N A B q R T) n p → S ≡ unsettled (answer n p) R T
+
+-- a batch as a whole: a refusal leaves both buffers as they were; without one, the bytes beyond those of all jobs stay
+pub record BatchAnswers (N : Net) (jobs results answers : List ℕ) (S : Batch) : Type 0 where
+  pub answered : Answers (batchRows N (jobCount jobs) results answers) (S .answer)
+  pub untouched : (n p : ℕ) → First (batchRows N (jobCount jobs) results answers) n p → S .buffers ≡ record { results = results; answers = answers }
+  pub results-beyond : S .answer .number ≡ 0
+      → drop (jobCount jobs * jobWidth N) (S .buffers .results) ≡ drop (jobCount jobs * jobWidth N) results
+  pub answers-beyond : S .answer .number ≡ 0
+      → drop (jobCount jobs * answerWidth) (S .buffers .answers) ≡ drop (jobCount jobs * answerWidth) answers
+
+-- the bytes of job n, from 0: its line, its own of the result buffer, and its three of the answer buffer
+abbrev pub lineOf : ℕ → List ℕ → List ℕ
+lineOf n jobs = take lineWidth (drop (n * lineWidth) jobs)
+
+abbrev pub resultOf : Net → ℕ → List ℕ → List ℕ
+resultOf N n results = take (jobWidth N) (drop (n * jobWidth N) results)
+
+abbrev pub answerOf : ℕ → List ℕ → List ℕ
+answerOf n answers = take answerWidth (drop (n * answerWidth) answers)
+
+-- the rows of a job: its line, then those of settling that the batch has not tested
+abbrev pub jobLineRows : Net → JobLine → List Row
+jobLineRows N (Asked A B q) = row (jobNumber Refused) none ∷ jobRows N A B q
+jobLineRows N Refused = row (jobNumber Refused) (some 0) ∷ []
+
+-- a job of a batch: refused, its three bytes are its number, 0 and 0, and its own result bytes stay as they were
+pub record JobAnswers (N : Net) (jobs results : List ℕ) (n : ℕ) (S : Batch) : Type 0 where
+  pub answered : Answers (jobLineRows N (jobOf (lineOf n jobs))) (answer (at (answerOf n (S .buffers .answers)) 0) 0)
+  pub counts : (m p : ℕ) → First (jobLineRows N (jobOf (lineOf n jobs))) m p → answerOf n (S .buffers .answers) ≡ m ∷ 0 ∷ 0 ∷ []
+  pub untouched : (m p : ℕ) → First (jobLineRows N (jobOf (lineOf n jobs))) m p → resultOf N n (S .buffers .results) ≡ resultOf N n results
