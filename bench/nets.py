@@ -9,6 +9,7 @@ class Net:
         self.letters = letters
         self.vertices = [(0, 0), (0, 1)]
         self.edges = []
+        self.gates = {}  # the groups of each vertex that is pulled, by its number
 
     def vertex(self, role):
         self.vertices.append((role, 0))
@@ -19,6 +20,7 @@ class Net:
 
     def pulls(self, y, groups):
         """y is 0 where all symbols of some group are 1, and 1 where every group has a symbol that is 0."""
+        self.gates[y] = groups
         for group in groups:
             at = y
             for symbol in group[:-1]:
@@ -133,10 +135,21 @@ def chain(rising):
         at = v
     for link in links if rising else links[::-1]:
         net.edges.extend(link)
+    net.gates[y] = [[letter(j) for j in range(8)]]
     for j in range(8):
         net.edge(y, ONE, P, letter(j))
     net.edge(z, ONE, P, symbol(y))
     net.edge(z, ZERO, N, symbol(y))
+    return net
+
+
+def key_chain():
+    """Twelve key nodes in a row, the first the NAND of eight letters, each later one the inverse of the one before: passes of twelve steps."""
+    net = Net(8)
+    keys = [net.vertex(1) for _ in range(12)]
+    net.pulls(keys[0], [[letter(j) for j in range(8)]])
+    for before, y in zip(keys, keys[1:] + [net.vertex(2)]):
+        net.pulls(y, [[symbol(before)]])
     return net
 
 
@@ -147,4 +160,5 @@ NETS = {
     "unstable fights": unstable_fights(),
     "chain": chain(False),
     "chain, other order": chain(True),
+    "key chain": key_chain(),
 }
