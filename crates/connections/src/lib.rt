@@ -1,5 +1,4 @@
 //! Connections to input vertices, in lanes. Definitions and laws are those of the crate `excitations`.
-use graph::tables;
 use net::Kind;
 use net::Net;
 use net::Symbol;
@@ -18,7 +17,7 @@ ghost use Rattle.excitations.specs.Sweeps as spec;
 fn label_hits(label: u16, bit: u8, value: u8) -> u8
     ensures { λ r. ⌜ r ≡ digit (eqb (symbolAt (decode label) bit) value) ⌝ }
 {
-    tables::equal(conditions::symbol_at(symbols::decoded(label), bit), value)
+    flags::equal(conditions::symbol_at(symbols::decoded(label), bit), value)
 }
 
 // Marks where an edge that is on joins a storage vertex to an input vertex of the value.

@@ -2,12 +2,10 @@
 use crate::classes;
 use net::Net;
 ghost use mathlib.Core.Path.{_≡_};
-ghost use mathlib.Core.Bool.{_&&_, _||_};
+ghost use mathlib.Core.Bool.{_||_};
 ghost use Prim.Native.Nat.{_≤_};
 ghost use lib.Dec.{eqb};
-ghost use lib.ListN.{length, getD};
 ghost use Rattle.ternary.specs.Bits.{digit};
-ghost use Rattle.ternary.specs.Lists.{countBelow};
 ghost use Rattle.net.specs.Limits.{mostVertices};
 ghost use Rattle.net.specs.Graph.{keyCount};
 ghost use Rattle.net.specs.Tables.{Readable, storageFlags, componentLabels, keyFlags};
@@ -34,23 +32,6 @@ pub fn storage_flags(net: Net) -> [u8; Net::VERTEX_PLACES]
     flags
 }
 
-// 1 for two equal numbers, else 0.
-pub fn equal(a: u8, b: u8) -> u8
-    ensures { λ r. ⌜ r ≡ digit (eqb a b) ⌝ }
-{
-    if a == b { 1 } else { 0 }
-}
-
-// 1 if both flags are 1, else 0.
-pub fn both(a: u8, b: u8) -> u8
-    ensures { λ r. ⌜ r ≡ digit (eqb a 1 && eqb b 1) ⌝ }
-{
-    if a != 1 {
-        return 0;
-    }
-    if b == 1 { 1 } else { 0 }
-}
-
 // The label of each vertex's component: each edge in use that joins storage vertices makes one class of its ends' classes.
 pub fn component_labels(net: Net, storage: &[u8; Net::VERTEX_PLACES]) -> [u8; Net::VERTEX_PLACES]
     requires { ⌜ Readable net × (now storage ≡ storageFlags net) ⌝ }
@@ -60,7 +41,7 @@ pub fn component_labels(net: Net, storage: &[u8; Net::VERTEX_PLACES]) -> [u8; Ne
     let count = net.edge_count as usize;
     for i in 0..count {
         let edge = net.edges[i];
-        if both(storage[edge.end1 as usize], storage[edge.end2 as usize]) == 1 {
+        if flags::both(storage[edge.end1 as usize], storage[edge.end2 as usize]) == 1 {
             classes::merge_classes(&mut labels, edge.end1, edge.end2);
         }
     }
@@ -82,19 +63,6 @@ pub fn key_flags(net: Net, storage: &[u8; Net::VERTEX_PLACES]) -> [u8; Net::VERT
     keys
 }
 
-// How many flags are 1.
-pub fn count_flags(flags: &[u8]) -> usize
-    ensures { λ r. ⌜ r ≡ countBelow (length (now (flags .entry))) (λ i. eqb (getD (now (flags .entry)) i 0) 1) ⌝ }
-{
-    let mut count: usize = 0;
-    for i in 0..flags.len() {
-        if flags[i] == 1 {
-            count += 1;
-        }
-    }
-    count
-}
-
 // h, the number of key nodes.
 pub fn key_count(net: Net) -> usize
     requires { ⌜ Readable net ⌝ }
@@ -102,5 +70,5 @@ pub fn key_count(net: Net) -> usize
 {
     let storage = storage_flags(net);
     let keys = key_flags(net, &storage);
-    count_flags(&keys)
+    flags::count_flags(&keys)
 }

@@ -1,5 +1,4 @@
 //! Tables of marks. Definitions and laws are those of the crate `troubles`.
-use graph::tables;
 use net::Net;
 ghost use mathlib.Core.Path.{_≡_};
 ghost use Prim.Native.Nat.{suc, _*_, _≤_};
@@ -13,7 +12,7 @@ pub fn is_marked(table: &[u8]) -> bool
 {
     let mut found: u8 = 0;
     for i in 0..table.len() {
-        found = found | tables::equal(table[i], 1);
+        found = found | flags::equal(table[i], 1);
     }
     found == 1
 }

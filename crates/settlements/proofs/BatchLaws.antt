@@ -28,10 +28,10 @@ use Rattle.settlements.proofs.SettleLaws.{Startable, settlementAnswer, 
 
 -- ---- pieces of one width in a row
 
-drop-suc-mul : {A : Type 0} (n w : ℕ) (l : List A) → drop (suc n * w) l ≡ drop (n * w) (drop w l)
+pub drop-suc-mul : {A : Type 0} (n w : ℕ) (l : List A) → drop (suc n * w) l ≡ drop (n * w) (drop w l)
 drop-suc-mul n w l = rw (suc-mul, add-comm (n * w) w) (sym (drop-drop (n * w) w l))
 
-step-drop : {A : Type 0} (n w : ℕ) (xs ys : List A) → length xs ≡ w → drop (suc n * w) (xs ++ ys) ≡ drop (n * w) ys
+pub step-drop : {A : Type 0} (n w : ℕ) (xs ys : List A) → length xs ≡ w → drop (suc n * w) (xs ++ ys) ≡ drop (n * w) ys
 step-drop n w xs ys e = drop-suc-mul n w (xs ++ ys) ∙ ap (drop (n * w)) (drop-at xs ys w e)
 
 abbrev pub vectorsOf : Settlement → List ℕ
@@ -84,13 +84,13 @@ module _ (N : Net) where
   -- ---- the places of a job's bytes
 
   -- the first job has its own bytes, and the later ones have theirs
-  own-length : (j : List ℕ) (js : List (List ℕ)) (results : List ℕ) → suc (length js) * jobWidth N ≤ length results
+  pub own-length : (j : List ℕ) (js : List (List ℕ)) (results : List ℕ) → suc (length js) * jobWidth N ≤ length results
       → length (vectorsOf (jobSettlement N (jobOf j) (take (jobWidth N) results))) ≡ jobWidth N
   own-length j js results fits =
       let more : suc (length js) * jobWidth N ≡ length js * jobWidth N + jobWidth N = suc-mul (length js) (jobWidth N) in
       job-length (jobOf j) (take (jobWidth N) results) (length-take-le (jobWidth N) results (omega arith))
 
-  rest-fits : (j : List ℕ) (js : List (List ℕ)) (results : List ℕ) → suc (length js) * jobWidth N ≤ length results
+  pub rest-fits : (j : List ℕ) (js : List (List ℕ)) (results : List ℕ) → suc (length js) * jobWidth N ≤ length results
       → length js * jobWidth N ≤ length (drop (jobWidth N) results)
   rest-fits j js results fits =
       let more : suc (length js) * jobWidth N ≡ length js * jobWidth N + jobWidth N = suc-mul (length js) (jobWidth N) in

@@ -10,3 +10,4 @@ pub mod JobSteps
 pub mod PieceLaws
 pub mod JobsInTurn
 pub mod BatchSteps
+pub mod RunLaws

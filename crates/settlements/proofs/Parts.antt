@@ -1,10 +1,11 @@
 -- Parts of lists: what follows a part that is all of its list, and a list with a part in its middle replaced.
-use Prim.Native.Nat.{ℕ, _+_, _-_, _≤_}
+use Prim.Native.Nat.{ℕ, zero, suc, _+_, _-_, _≤_}
+use native.Mathlib.Nat.{sub-zero, zero-sub, suc-sub-suc}
 use native.Mathlib.Omega.{arith}
 use mathlib.Core.Path.{_≡_, sym, ap, _∙_}
-use mathlib.Core.List.{List, _++_, append-assoc, append-nil}
+use mathlib.Core.List.{List, [], _∷_, _++_, append-assoc, append-nil}
 use lib.ListN.{length, take, drop, length-append, length-drop, drop-of-length-le}
-use lib.Seq.{take-at, drop-at, length-take-le}
+use lib.Seq.{take-nil, take-at, drop-at, length-take-le}
 use borrow.Rule.Slice.PartMut.{putMid}
 
 -- the width of a part, as a part's ends give it
@@ -13,6 +14,13 @@ part-width at w = omega arith
 
 pub nothing-after : (x l : List ℕ) (n : ℕ) → length l ≤ n → x ≡ x ++ drop n l
 nothing-after x l n h = rw (drop-of-length-le l {i = n} h, append-nil)
+
+-- a part of a part from the front
+pub drop-take : (a b : ℕ) (l : List ℕ) → drop a (take b l) ≡ take (b - a) (drop a l)
+drop-take zero b l = rw sub-zero
+drop-take (suc a) zero l = rw zero-sub
+drop-take (suc a) (suc b) [] = sym (take-nil (suc b - suc a))
+drop-take (suc a) (suc b) (x ∷ l) = rw suc-sub-suc (drop-take a b l)
 
 -- what stands up to the end of the new part, what stands after it, and the length
 module _ (l p : List ℕ) (at w : ℕ) (fits : at + w ≤ length l) (size : length p ≡ w) where

@@ -1,7 +1,4 @@
-//! Settling and batches: the two passes as calls with their numbers and lent buffers. What each answers stands in specs/.
-
-mod prepared;
-mod sound;
+//! Settling and batches: the two passes as calls with their numbers and lent buffers. What each answers is defined in the crate `settlements`.
 
 use net::Net;
 use settlements::Settling;
@@ -29,7 +26,7 @@ pub fn settle<'a>(
     let mut fights = [0u8; Net::VERTEX_LANES];
     match c1::lowest_break(net, &mut excitations, &mut fights) {
         Found::At(place) => job_tests::refused(Answer::BREAKS_C1, place),
-        Found::Nothing => sound::settle(net, &excitations, old, new, start, r, t),
+        Found::Nothing => sound_settling::settle(net, &excitations, old, new, start, r, t),
     }
 }
 
@@ -55,6 +52,6 @@ pub fn batch<'a, 'b>(
             number: Answer::BREAKS_C1,
             place: place,
         },
-        Found::Nothing => sound::batch(net, &excitations, jobs, results, answers),
+        Found::Nothing => sound_settling::batch(net, &excitations, jobs, results, answers),
     }
 }

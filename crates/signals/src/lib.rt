@@ -1,6 +1,5 @@
 //! The signals of a component: the letters and key nodes on the edges that touch it, and the letters of the input vertices that these
 //! edges touch. Types, definitions and laws are those of the crate `net`.
-use graph::tables;
 use net::Net;
 use net::Symbol;
 ghost use mathlib.Core.Path.{_≡_};
@@ -106,5 +105,5 @@ pub fn signal_count<'a>(
     ensures { λ r. ⌜ r ≡ signalCount net y ⌝ }
 {
     let flags = signal_flags(net, storage, labels, y);
-    tables::count_flags(&flags)
+    flags::count_flags(&flags)
 }

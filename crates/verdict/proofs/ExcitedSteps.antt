@@ -28,6 +28,7 @@ module _ (N : Net) (a q y : ℕ) where
   unfolding excitedOf excitationRows byRows firstRow
   no-storage e f g h = rw (e, f, g, h)
 
-  pub all-fit : {v : ℕ} → valid N ≡ true → isInputState N a ≡ true → isKeyState N q ≡ true → isStorage N y ≡ true → v ≡ excitation N a q y → Value v ≡ excitedOf N a q y
+  pub all-fit : {v : ℕ} → valid N ≡ true → isInputState N a ≡ true → isKeyState N q ≡ true → isStorage N y ≡ true
+      → v ≡ excitation N a q y → Value v ≡ excitedOf N a q y
   unfolding excitedOf excitationRows byRows firstRow
   all-fit e f g h v = rw (e, f, g, h, v)

@@ -14,7 +14,8 @@ use Rattle.excitations.proofs.TableReads.{gather-below, excitation-entry}
 use Rattle.states.specs.Weights.{weights, letterPart, keyPart}
 use Rattle.states.proofs.GatherLaws.{gather-parts}
 
-module _ (N : Net) (fit : Fit N) (y : ℕ) (s : isStorage N y ≡ true) (a q : ℕ) {list : List ℕ} {l k : ℕ} (w : list ≡ weights N y) (el : l ≡ letterPart list a) (ek : k ≡ keyPart list q) where
+module _ (N : Net) (fit : Fit N) (y : ℕ) (s : isStorage N y ≡ true) (a q : ℕ)
+    {list : List ℕ} {l k : ℕ} (w : list ≡ weights N y) (el : l ≡ letterPart list a) (ek : k ≡ keyPart list q) where
   index : l + k ≡ gather N y a q
   index = rw (el, ek, w) (sym (gather-parts N y fit s a q))
 

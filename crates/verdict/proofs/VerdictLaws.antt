@@ -103,7 +103,10 @@ module _ (N : Net) where
   pub verdict-0 : (verdictOf N .number ≡ 0) ↔ ((valid N ≡ true) × WellFormed N)
   unfolding verdictOf verdictRows
   verdict-0 = Iff·trans (four-0 _ _ _ _) (
-    λ h. (asks-none (valid N) .0 (h .0), record { c1 = place-c1-none N .0 (h .1); c2 = c2-iff N .0 (asks-none (testC2 N) .0 (h .2)); c3 = place-c3-none N .0 (h .3) }),
+    λ h. (
+      asks-none (valid N) .0 (h .0),
+      record { c1 = place-c1-none N .0 (h .1); c2 = c2-iff N .0 (asks-none (testC2 N) .0 (h .2)); c3 = place-c3-none N .0 (h .3) },
+    ),
     λ h. (asks-none (valid N) .1 (h .0), place-c1-none N .1 (h .1 .c1), asks-none (testC2 N) .1 (c2-iff N .1 (h .1 .c2)), place-c3-none N .1 (h .1 .c3)),
   )
 

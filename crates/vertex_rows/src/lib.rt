@@ -60,7 +60,7 @@ fn meet<'a, 'b>(
     ensures { λ r. ⌜ now (fights .exit) ≡ table (suc mostVertices * assignments) (λ i. digit (eqb (getD (now (c0 .entry)) i 0) 1 && eqb (getD (now (c1 .entry)) i 0) 1)) ⌝ }
 {
     for i in 0..Net::VERTEX_LANES {
-        fights[i] = tables::both(c0[i], c1[i]);
+        fights[i] = flags::both(c0[i], c1[i]);
     }
 }
 

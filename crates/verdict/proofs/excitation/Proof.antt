@@ -16,21 +16,37 @@ use Rattle.verdict.proofs.ExcitedSteps.{bad-record, bad-input, bad-key-
 use Rattle.verdict.proofs.excitation.Statement.{statement}
 use Rattle.verdict.proofs.excitation.Tie as tie
 
+-- places of the run, each found from the next: where a test has been passed
+abbrev start : tie.Else1 → tie.Start
+start c = c .before .before
+
+abbrev past-record : tie.Else2 → tie.Else1
+past-record c = c .before .before .before
+
+abbrev past-input : tie.Else3 → tie.Else2
+past-input c = c .before .before .before
+
+abbrev past-key : tie.Else4 → tie.Else3
+past-key c = c .before .before
+
 -- what has passed so far
-valid-record : (c : tie.Else1) → valid (c .before .before .args .net) ≡ true
+valid-record : (c : tie.Else1) → valid (start c .args .net) ≡ true
 valid-record c = sym (c .before .is-record .ensures) ∙ not-false _ (c .if1 .left)
 
-input-state : (c : tie.Else2) → let s = c .before .before .before .before .before in isInputState (s .args .net) (s .args .input) ≡ true
+input-state : (c : tie.Else2) → let s = start (past-record c) in isInputState (s .args .net) (s .args .input) ≡ true
 input-state c = sym (c .before .is-below .ensures) ∙ not-false _ (c .if2 .left)
 
-key-state : (c : tie.Else3) → let s = c .before .before .before .before .before .before .before .before in isKeyState (s .args .net) (s .args .key) ≡ true
+key-state : (c : tie.Else3) → let s = start (past-record (past-input c)) in isKeyState (s .args .net) (s .args .key) ≡ true
 key-state c = rw (c .before .before .key-count .ensures) at (sym (c .before .is-below2 .ensures) ∙ not-false _ (c .if3 .left))
 
-storage-vertex : (c : tie.Else4) → let s = c .before .before .before .before .before .before .before .before .before .before in isStorage (s .args .net) (s .args .vertex) ≡ true
+storage-vertex : (c : tie.Else4) → let s = start (past-record (past-input (past-key c))) in isStorage (s .args .net) (s .args .vertex) ≡ true
 storage-vertex c = sym (c .before .is-storage .ensures) ∙ not-false _ (c .if4 .left)
 
-fit : (c : tie.Else1) → Fit (c .before .before .args .net)
+fit : (c : tie.Else1) → Fit (start c .args .net)
 fit c = valid-fit _ (valid-record c)
+
+vertex-low : (c : tie.Else4) → start (past-record (past-input (past-key c))) .args .vertex ≤ mostVertices
+vertex-low c = storage-row _ (fit (past-record (past-input (past-key c))) .readable) _ (storage-vertex c)
 
 is-record-requires : tie.Need-is-record-requires
 is-record-requires c κs = search needs
@@ -48,31 +64,37 @@ returns-2 : tie.Need-returns-2
 returns-2 c = bad-input _ _ _ _ (valid-record (c .before .before .before)) (sym (c .before .is-below .ensures) ∙ not-true _ (c .if2 .taken))
 
 key-count-requires : tie.Need-key-count-requires
-key-count-requires c κs = fit (c .before .before .before) .readable
+key-count-requires c κs = fit (past-record c) .readable
 
 is-below-requires-2 : tie.Need-is-below-requires-2
-is-below-requires-2 c κs = rw (c .key-count .ensures) (fit (c .before .before .before .before) .keys)
+is-below-requires-2 c κs = rw (c .key-count .ensures) (fit (past-record (c .before)) .keys)
 
 returns-3 : tie.Need-returns-3
-returns-3 c = bad-key-state _ _ _ _ (valid-record (c .before .before .before .before .before .before)) (input-state (c .before .before .before)) (rw (c .before .before .key-count .ensures) at (sym (c .before .is-below2 .ensures) ∙ not-true _ (c .if3 .taken)))
+returns-3 c =
+    let i = c .before .before .before in
+    bad-key-state _ _ _ _ (valid-record (past-record i)) (input-state i)
+    (rw (c .before .before .key-count .ensures) at (sym (c .before .is-below2 .ensures) ∙ not-true _ (c .if3 .taken)))
 
 is-storage-requires : tie.Need-is-storage-requires
-is-storage-requires c κs = fit (c .before .before .before .before .before .before) .readable .vertices
+is-storage-requires c κs = fit (past-record (past-input c)) .readable .vertices
 
 returns-4 : tie.Need-returns-4
-returns-4 c = no-storage _ _ _ _ (valid-record (c .before .before .before .before .before .before .before .before)) (input-state (c .before .before .before .before .before)) (key-state (c .before .before)) (sym (c .before .is-storage .ensures) ∙ not-true _ (c .if4 .taken))
-
-vertex-low : (c : tie.Else4) → c .before .before .before .before .before .before .before .before .before .before .args .vertex ≤ mostVertices
-vertex-low c = storage-row _ (fit (c .before .before .before .before .before .before .before .before) .readable) _ (storage-vertex c)
+returns-4 c =
+    let k = c .before .before in
+    let i = past-input k in
+    no-storage _ _ _ _ (valid-record (past-record i)) (input-state i) (key-state k) (sym (c .before .is-storage .ensures) ∙ not-true _ (c .if4 .taken))
 
 cast-value : tie.Need-cast-value
 cast-value c = let h = vertex-low c in search needs
 
 value-requires : tie.Need-value-requires
-value-requires c κs = (fit (c .before .before .before .before .before .before .before .before), storage-vertex c)
+value-requires c κs = (fit (past-record (past-input (past-key c))), storage-vertex c)
 
 returns-5 : tie.Need-returns-5
-returns-5 c = all-fit _ _ _ _ (valid-record (c .before .before .before .before .before .before .before .before .before)) (input-state (c .before .before .before .before .before .before)) (key-state (c .before .before .before)) (storage-vertex (c .before)) (c .value .ensures)
+returns-5 c =
+    let k = past-key (c .before) in
+    let i = past-input k in
+    all-fit _ _ _ _ (valid-record (past-record i)) (input-state i) (key-state k) (storage-vertex (c .before)) (c .value .ensures)
 
 pub excitation-spec : {M : Type 1} → statement M
 excitation-spec =

@@ -1,0 +1,16 @@
+-- `flags::both` meets its contract. Assumes nothing.
+use borrow.Author.Tests.{eq-eqb, ne-eqb}
+use Rattle.flags.proofs.both.Statement.{statement}
+use Rattle.flags.proofs.both.Tie as tie
+
+returns : tie.Need-returns
+returns c = simp (ne-eqb _ _ (c .if1 .taken))
+
+returns-2 : tie.Need-returns-2
+returns-2 c = simp (eq-eqb _ _ (c .before .if1 .left), eq-eqb _ _ (c .if2 .taken))
+
+returns-3 : tie.Need-returns-3
+returns-3 c = simp (eq-eqb _ _ (c .before .if1 .left), ne-eqb _ _ (c .if2 .left))
+
+pub both-spec : {M : Type 1} → statement M
+both-spec = tie.close (tie.spec returns returns-2 returns-3)
