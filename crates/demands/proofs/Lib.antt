@@ -9,3 +9,4 @@ pub mod Demand3
 pub mod Demand2
 pub mod Kept
 pub mod Instance
+pub mod Text

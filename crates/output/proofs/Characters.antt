@@ -1,0 +1,100 @@
+-- A job's line shows its own bytes: each 0 and each 1 of r and t is printed as that digit, and no other byte is.
+use Prim.Native.Nat.{ℕ, zero, suc, _+_, _*_, _≤_, _<_}
+use native.Mathlib.Omega.{arith}
+use mathlib.Core.Path.{_≡_, refl, sym, ap, _∙_}
+use mathlib.Core.Logic.{inl, inr, ⊎-elim, _↔_, _≢_}
+use mathlib.Core.List.{List, [], _∷_, _++_, map, append-assoc}
+use lib.ListN.{length, take, drop, replicate, length-append, length-drop}
+use lib.Seq.{take-at, drop-at, take-all, drop-drop, getD-take, length-take-le}
+use borrow.Author.Tests.{ne-eqb}
+use Rattle.ternary.specs.Signal.{Against, at}
+use Rattle.net.proofs.Classes.{getD-map-lt}
+use Rattle.sheet.specs.Limits.{fieldWidth, blank, digitZero, lineEnd}
+use Rattle.sheet.specs.Line.{writeNumber}
+use Rattle.sheet.proofs.FieldLaws.{length-field}
+use Rattle.output.specs.Limits.{hyphen}
+use Rattle.output.specs.Text.{character, vectorText, jobText}
+use Rattle.output.specs.Printed.{printedNumbers, printedR, printedT, AgainstPrinted}
+use Rattle.output.proofs.Lengths.{length-vector}
+
+-- ---- one character
+
+pub character-zero : (s : ℕ) → (character s ≡ digitZero) ↔ (s ≡ 0)
+character-zero zero = (λ _. refl, λ _. refl)
+character-zero (suc zero) = (λ e. absurd (omega arith), λ e. absurd (omega arith))
+character-zero (suc (suc s)) = (λ e. absurd (omega arith), λ e. absurd (omega arith))
+
+pub character-one : (s : ℕ) → (character s ≡ suc digitZero) ↔ (s ≡ 1)
+character-one zero = (λ e. absurd (omega arith), λ e. absurd (omega arith))
+character-one (suc zero) = (λ _. refl, λ _. refl)
+character-one (suc (suc s)) = (λ e. absurd (omega arith), λ e. absurd (omega arith))
+
+-- a value is against a printed 0 or 1 exactly if it is against the signal
+pub character-against : (s v : ℕ) → AgainstPrinted (character s) v ↔ Against s v
+character-against s v = (
+  ⊎-elim (λ h. inl (character-zero s .0 (h .0), h .1)) (λ h. inr (character-one s .0 (h .0), h .1)),
+  ⊎-elim (λ h. inl (character-zero s .1 (h .0), h .1)) (λ h. inr (character-one s .1 (h .0), h .1)),
+)
+
+-- ---- h characters
+
+pub vector-taken : (h : ℕ) (vector : List ℕ) → vectorText h 0 vector ≡ map character (take h vector)
+unfolding vectorText
+vector-taken h vector = refl
+
+pub vector-settled : (h : ℕ) (vector : List ℕ) → length vector ≡ h → vectorText h 0 vector ≡ map character vector
+vector-settled h vector size = vector-taken h vector ∙ ap (map character) (take-all h vector (omega arith))
+
+pub vector-refused : (h number : ℕ) (vector : List ℕ) → number ≢ 0 → vectorText h number vector ≡ replicate h hyphen
+unfolding vectorText
+vector-refused h number vector refused = rw (ne-eqb number 0 refused)
+
+pub vector-at : (h : ℕ) (vector : List ℕ) (k : ℕ) → k < h → h ≤ length vector → at (vectorText h 0 vector) k ≡ character (at vector k)
+unfolding vectorText
+vector-at h vector k inside fits =
+    getD-map-lt character (take h vector) k (rw (length-take-le h vector fits) inside) ∙ ap character (getD-take h vector k 0 inside)
+
+-- ---- the parts of a job's line
+
+module _ (h n : ℕ) (three own : List ℕ) (size : length own ≡ 2 * h) where
+  abbrev numbers : List ℕ
+  numbers = writeNumber n ++ writeNumber (at three 0) ++ writeNumber (at three 1) ++ writeNumber (at three 2)
+
+  abbrev r : List ℕ
+  r = vectorText h (at three 0) own
+
+  abbrev t : List ℕ
+  t = vectorText h (at three 0) (drop h own)
+
+  parts : jobText h n three own ≡ numbers ++ blank ∷ (r ++ blank ∷ (t ++ lineEnd ∷ []))
+  unfolding jobText
+  parts = simp append-assoc
+
+  numbers-length : length numbers ≡ 4 * fieldWidth
+  numbers-length = simp (length-append, length-field)
+
+  r-length : length r ≡ h
+  r-length = length-vector h (at three 0) own (omega arith)
+
+  t-length : length t ≡ h
+  t-length = length-vector h (at three 0) (drop h own) (rw length-drop (omega arith))
+
+  -- what follows the numbers and the first blank
+  after-numbers : drop (4 * fieldWidth + 1) (jobText h n three own) ≡ r ++ blank ∷ (t ++ lineEnd ∷ [])
+  after-numbers =
+      ap (drop (4 * fieldWidth + 1)) parts ∙ sym (drop-drop 1 (4 * fieldWidth) (numbers ++ blank ∷ (r ++ blank ∷ (t ++ lineEnd ∷ []))))
+      ∙ ap (drop 1) (drop-at numbers (blank ∷ (r ++ blank ∷ (t ++ lineEnd ∷ []))) (4 * fieldWidth) numbers-length)
+
+  pub numbers-printed : printedNumbers (jobText h n three own) ≡ numbers
+  numbers-printed = ap (take (4 * fieldWidth)) parts ∙ take-at numbers _ (4 * fieldWidth) numbers-length
+
+  pub r-printed : printedR h (jobText h n three own) ≡ r
+  r-printed = ap (take h) after-numbers ∙ take-at r _ h r-length
+
+  pub t-printed : printedT h (jobText h n three own) ≡ t
+  t-printed = ap (take h) behind ∙ take-at t _ h t-length
+    where
+      behind : drop (4 * fieldWidth + 1 + h + 1) (jobText h n three own) ≡ t ++ lineEnd ∷ []
+      behind =
+          sym (drop-drop 1 (4 * fieldWidth + 1 + h) (jobText h n three own))
+          ∙ ap (drop 1) (sym (drop-drop h (4 * fieldWidth + 1) (jobText h n three own)) ∙ ap (drop h) after-numbers ∙ drop-at r (blank ∷ (t ++ lineEnd ∷ [])) h r-length)

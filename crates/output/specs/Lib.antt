@@ -1,0 +1,6 @@
+pub mod Limits
+pub mod Text
+pub mod Output
+pub mod Calls
+pub mod Pieces
+pub mod Printed

@@ -1,0 +1,51 @@
+-- What the program writes for the bytes of its two files.
+use Prim.Native.Nat.{ℕ, _*_}
+use mathlib.Core.Bool.{Bool, cond, _||_}
+use mathlib.Core.List.{List, [], _∷_, _++_}
+use lib.Dec.{eqb}
+use lib.ListN.{take, replicate}
+use Rattle.net.specs.declared.Net.{Net}
+use Rattle.net.specs.Graph.{keyCount}
+use Rattle.sheet.specs.Limits.{lineWidth, lineEnd}
+use Rattle.sheet.specs.Line.{writeNumber}
+use Rattle.sheet.specs.declared.Answer.{Answer}
+use Rattle.sheet.specs.Reading.{readSheet}
+use Rattle.verdict.specs.Verdict.{verdictOf}
+use Rattle.settlements.specs.Batch.{jobCount, jobWidth, answerWidth, Batch, batchOf}
+use Rattle.output.specs.Limits.{mostJobs}
+use Rattle.output.specs.Text.{jobTexts}
+
+-- the first line: 0, a number, its place, and h
+unfoldable pub firstLine : Answer → ℕ → List ℕ
+firstLine a h = writeNumber 0 ++ writeNumber (a .number) ++ writeNumber (a .place) ++ writeNumber h ++ lineEnd ∷ []
+
+-- of a sheet: the reader's number, h then being 0, or else the verdict
+unfoldable pub openingText : List ℕ → List ℕ
+openingText sheet =
+    let reading = readSheet sheet in
+    cond (eqb (reading .answer .number) 0)
+    (firstLine (verdictOf (reading .net)) (keyCount (reading .net)))
+    (firstLine (reading .answer) 0)
+
+-- after these verdicts the jobs are run: well formed, or C2 or C3 alone broken
+abbrev pub goesOn : ℕ → Bool
+goesOn number = eqb number 0 || eqb number 32 || eqb number 33
+
+-- what a batch of these lines gives, in buffers of just the size they need
+unfoldable pub batchFor : Net → List ℕ → Batch
+batchFor N lines = batchOf N lines (replicate (jobCount lines * jobWidth N) 0) (replicate (jobCount lines * answerWidth) 0)
+
+-- the lines of the jobs of a sheet, numbered from n on; nothing for a sheet that the program ends with after the first line
+unfoldable pub jobsText : List ℕ → ℕ → List ℕ → List ℕ
+jobsText sheet n lines =
+    let reading = readSheet sheet in
+    let batch = batchFor (reading .net) lines in
+    cond (eqb (reading .answer .number) 0)
+    (cond (goesOn (verdictOf (reading .net) .number))
+    (jobTexts (keyCount (reading .net)) (jobCount lines) n (batch .buffers .results) (batch .buffers .answers))
+    [])
+    []
+
+-- the whole output: the first line, and a line for each job up to the last that is read
+unfoldable pub outputOf : List ℕ → List ℕ → List ℕ
+outputOf sheet jobs = openingText sheet ++ jobsText sheet 1 (take (mostJobs * lineWidth) jobs)

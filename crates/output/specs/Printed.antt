@@ -1,0 +1,26 @@
+-- Where the output has the line of a job, and in it the characters of r and t.
+use Prim.Native.Nat.{ℕ, suc, _+_, _*_}
+use mathlib.Core.Path.{_≡_}
+use mathlib.Core.Logic.{_⊎_}
+use mathlib.Core.List.{List}
+use lib.ListN.{take, drop}
+use Rattle.sheet.specs.Limits.{fieldWidth, digitZero}
+use Rattle.output.specs.Limits.{openingBytes, jobBytes}
+
+-- the line of job n, from 0, of a net of h key nodes
+abbrev pub printedLine : ℕ → ℕ → List ℕ → List ℕ
+printedLine h n output = take (jobBytes h) (drop (openingBytes + n * jobBytes h) output)
+
+-- its four numbers; then, each after a blank, r and t
+abbrev pub printedNumbers : List ℕ → List ℕ
+printedNumbers line = take (4 * fieldWidth) line
+
+abbrev pub printedR : ℕ → List ℕ → List ℕ
+printedR h line = take h (drop (4 * fieldWidth + 1) line)
+
+abbrev pub printedT : ℕ → List ℕ → List ℕ
+printedT h line = take h (drop (4 * fieldWidth + 1 + h + 1) line)
+
+-- the value v is the other one of a printed 0 or 1
+abbrev pub AgainstPrinted : ℕ → ℕ → Type 0
+AgainstPrinted c v = ((c ≡ digitZero) × (v ≡ 1)) ⊎ ((c ≡ suc digitZero) × (v ≡ 0))

@@ -1,0 +1,32 @@
+//! The text that the program writes: definitions and laws, from the bytes of its two files to the bytes of its output. The code is in the crates `job_lines` and `report`.
+use net::Net;
+use sheet::Sheet;
+
+// What a call wrote: so many bytes, or none because the buffer is shorter than the call asks for.
+pub enum Written {
+    Short,
+    Bytes(u32),
+}
+
+// Limits and bytes of the output.
+pub struct Report;
+
+impl Report {
+    // Jobs past this one stay unread.
+    pub const MOST_JOBS: usize = 9999;
+
+    // Jobs that one call takes.
+    pub const PIECE_JOBS: usize = 3333;
+
+    // The first line: four fields and its end.
+    pub const OPENING_BYTES: usize = 4 * Sheet::FIELD_WIDTH + 1;
+
+    // The line of a job with the most key nodes: four fields, two blanks, two vectors and its end.
+    pub const MOST_JOB_BYTES: usize = 4 * Sheet::FIELD_WIDTH + 2 * Net::MOST_KEY_NODES + 3;
+
+    pub const PIECE_BYTES: usize = Report::PIECE_JOBS * Report::MOST_JOB_BYTES;
+
+    pub const LETTER_X: u8 = 88;
+
+    pub const HYPHEN: u8 = 45;
+}
