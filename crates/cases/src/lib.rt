@@ -1,12 +1,7 @@
 //! What the test programs share. Their input holds numbers in four columns, or three times four where they may be large, and parts whose
-//! sizes such numbers tell. A case may bring the sheet for the cases after it. The programs print numbers in four columns too.
+//! sizes such numbers tell. A case may bring the sheet for the cases after it.
 
 ghost use mathlib.Core.Path.{_≡_};
-ghost use mathlib.Core.Bool.{cond};
-ghost use Prim.Native.Nat.{_+_, _/_, _%_, _<_};
-ghost use lib.Dec.{ltb};
-ghost use Rattle.sheet.specs.Limits.{blank, digitZero};
-ghost use Rattle.sheet.specs.Line.{writeNumber};
 ghost use Rattle.cases.specs.Input.{partOf, numberAt, threeFields, largeAt, inForce};
 use lines::fields;
 use sheet::Field;
@@ -75,27 +70,4 @@ pub fn case_in_force(input: &[u8], at: usize, before: usize) -> usize
         return at;
     }
     before
-}
-
-// The column of n that has this weight: blank before the first digit.
-fn left_column(n: u64, weight: u64) -> u8
-    requires { ⌜ 0 < weight ⌝ }
-    ensures { λ r. ⌜ r ≡ cond (ltb n weight) blank (digitZero + n / weight % 10) ⌝ }
-{
-    if n < weight {
-        return Sheet::BLANK;
-    }
-    Sheet::DIGIT_ZERO + (n / weight % 10) as u8
-}
-
-// The four columns of n; of a number of more digits the last four.
-pub fn columns(n: u64) -> [u8; Sheet::FIELD_WIDTH]
-    ensures { λ r. ⌜ r ≡ writeNumber n ⌝ }
-{
-    [
-        left_column(n, 1000),
-        left_column(n, 100),
-        left_column(n, 10),
-        Sheet::DIGIT_ZERO + (n % 10) as u8,
-    ]
 }

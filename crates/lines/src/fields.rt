@@ -2,12 +2,13 @@
 
 ghost use mathlib.Core.Path.{_≡_};
 ghost use mathlib.Core.Bool.{cond};
-ghost use Prim.Native.Nat.{_+_, _-_, _%_};
-ghost use lib.Dec.{eqb};
+ghost use Prim.Native.Nat.{_+_, _-_, _/_, _%_, _<_};
+ghost use lib.Dec.{eqb, ltb};
 ghost use lib.ListN.{length};
 ghost use Rattle.ternary.specs.Lists.{same};
 ghost use Rattle.sheet.specs.Limits.{fieldWidth, blank, digitZero};
 ghost use Rattle.sheet.specs.Field.{fieldValue, writeField, readField, fieldAnswer};
+ghost use Rattle.sheet.specs.Line.{writeNumber};
 use sheet::Field;
 use sheet::Sheet;
 
@@ -85,4 +86,27 @@ pub fn read_field(b: &[u8]) -> Field
         return Field::Number(n as u16);
     }
     Field::Refused
+}
+
+// The column of n that has this weight: blank before the first digit.
+fn weighted_column(n: u64, weight: u64) -> u8
+    requires { ⌜ 0 < weight ⌝ }
+    ensures { λ r. ⌜ r ≡ cond (ltb n weight) blank (digitZero + n / weight % 10) ⌝ }
+{
+    if n < weight {
+        return Sheet::BLANK;
+    }
+    Sheet::DIGIT_ZERO + (n / weight % 10) as u8
+}
+
+// The four columns of n; of a number of more digits the last four.
+pub fn columns(n: u64) -> [u8; Sheet::FIELD_WIDTH]
+    ensures { λ r. ⌜ r ≡ writeNumber n ⌝ }
+{
+    [
+        weighted_column(n, 1000),
+        weighted_column(n, 100),
+        weighted_column(n, 10),
+        Sheet::DIGIT_ZERO + (n % 10) as u8,
+    ]
 }

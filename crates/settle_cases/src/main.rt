@@ -6,12 +6,12 @@ ghost use mathlib.Core.Path.{_≡_};
 ghost use lib.ListN.{length};
 ghost use Rattle.io.specs.Counts.{Counts};
 use cases::case_in_force;
-use cases::columns;
 use cases::large_at;
 use cases::number_at;
 use cases::part;
 use libc::STDIN_FILENO;
 use libc::STDOUT_FILENO;
+use lines::fields;
 use net::Net;
 use sheet::Answer;
 use sheet::Sheet;
@@ -84,7 +84,7 @@ fn input_buffer() -> [u8; Case::MOST_INPUT]
 
 // A number in four columns.
 fn print_column(n: u64) {
-    let text = columns(n);
+    let text = fields::columns(n);
     io::write_all(STDOUT_FILENO, &text);
 }
 

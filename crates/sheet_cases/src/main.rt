@@ -3,18 +3,18 @@
 
 ghost use Prim.Native.Nat.{_≤_, _<_};
 ghost use lib.ListN.{length};
-use cases::columns;
 use cases::number_at;
 use cases::part;
 use libc::STDIN_FILENO;
 use libc::STDOUT_FILENO;
+use lines::fields;
 use lines::jobs;
 use sheet::JobLine;
 use sheet::Sheet;
 
 // A number in four columns.
 fn print_column(n: u64) {
-    let text = columns(n);
+    let text = fields::columns(n);
     io::write_all(STDOUT_FILENO, &text);
 }
 

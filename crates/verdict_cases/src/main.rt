@@ -4,12 +4,12 @@
 ghost use Prim.Native.Nat.{_≤_, _<_};
 ghost use lib.ListN.{length};
 use cases::case_in_force;
-use cases::columns;
 use cases::large_at;
 use cases::number_at;
 use cases::part;
 use libc::STDIN_FILENO;
 use libc::STDOUT_FILENO;
+use lines::fields;
 use net::Net;
 use sheet::Answer;
 use sheet::Sheet;
@@ -34,7 +34,7 @@ impl Case {
 
 // A number in four columns.
 fn print_column(n: u64) {
-    let text = columns(n);
+    let text = fields::columns(n);
     io::write_all(STDOUT_FILENO, &text);
 }
 

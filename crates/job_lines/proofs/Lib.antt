@@ -1,0 +1,4 @@
+pub mod FrontLaws
+pub mod TextLaws
+pub mod BothVectors
+pub mod JobsInTurn

@@ -1,0 +1,36 @@
+//! Numbers in fields: one, and the four that each line opens with.
+
+ghost use mathlib.Core.Path.{_≡_};
+ghost use mathlib.Core.List.{_++_};
+ghost use Prim.Native.Nat.{_*_};
+ghost use lib.ListN.{length};
+ghost use Rattle.sheet.specs.Limits.{fieldWidth};
+ghost use Rattle.sheet.specs.Line.{writeNumber};
+use lines::fields;
+use sheet::Sheet;
+
+// A number in the four columns of a field.
+pub(crate) fn write_number(out: &mut [u8], n: u64)
+    requires { ⌜ length (now out) ≡ fieldWidth ⌝ }
+    ensures { λ _. ⌜ now (out .exit) ≡ writeNumber n ⌝ }
+{
+    let text = fields::columns(n);
+    out[0] = text[0];
+    out[1] = text[1];
+    out[2] = text[2];
+    out[3] = text[3];
+}
+
+// Four numbers, a field each.
+pub(crate) fn write_four(out: &mut [u8], first: u64, second: u64, third: u64, fourth: u64)
+    requires { ⌜ length (now out) ≡ 4 * fieldWidth ⌝ }
+    ensures { λ _. ⌜ now (out .exit) ≡ writeNumber first ++ writeNumber second ++ writeNumber third ++ writeNumber fourth ⌝ }
+{
+    let one = Sheet::FIELD_WIDTH;
+    let two = 2 * Sheet::FIELD_WIDTH;
+    let three = 3 * Sheet::FIELD_WIDTH;
+    write_number(&mut out[..one], first);
+    write_number(&mut out[one..two], second);
+    write_number(&mut out[two..three], third);
+    write_number(&mut out[three..], fourth);
+}

@@ -1,0 +1,56 @@
+//! The calls that give the program's text: its first line, and the lines of its jobs piece by piece. What each writes stands in the crate `output`.
+
+mod pieces;
+
+use graph::tables;
+use output::Report;
+use output::Written;
+ghost use mathlib.Core.Path.{_≡_};
+ghost use Rattle.output.specs.Calls.{report, openingOf, pieceOf};
+
+// The first line: the reader's number, or else the verdict.
+pub fn opening<'a, 'b>(sheet: &'a [u8], out: &'b mut [u8]) -> Written
+    ensures { λ w. ⌜ report w (now (out .exit)) ≡ openingOf (now (sheet .entry)) (now (out .entry)) ⌝ }
+{
+    if out.len() < Report::OPENING_BYTES {
+        return Written::Short;
+    }
+    let reading = reader::read(sheet);
+    let read = reading.answer;
+    if read.number != 0 {
+        job_lines::write_first_line(
+            &mut out[0..Report::OPENING_BYTES],
+            read.number,
+            read.place,
+            0,
+        );
+        return Written::Bytes(Report::OPENING_BYTES as u32);
+    }
+    let net = reading.net;
+    let judged = verdict::verdict(net);
+    let h = tables::key_count(net);
+    job_lines::write_first_line(
+        &mut out[0..Report::OPENING_BYTES],
+        judged.number,
+        judged.place,
+        h,
+    );
+    Written::Bytes(Report::OPENING_BYTES as u32)
+}
+
+// The lines of the jobs of a piece whose first job has this number.
+pub fn piece<'a, 'b>(sheet: &'a [u8], first: u32, lines: &'a [u8], out: &'b mut [u8]) -> Written
+    ensures { λ w. ⌜ report w (now (out .exit)) ≡ pieceOf (now (sheet .entry)) first (now (lines .entry)) (now (out .entry)) ⌝ }
+{
+    if out.len() < Report::PIECE_BYTES {
+        return Written::Short;
+    }
+    let reading = reader::read(sheet);
+    let read = reading.answer;
+    if read.number != 0 {
+        return Written::Bytes(0);
+    }
+    let net = reading.net;
+    let readable = pieces::read_lines(first, lines);
+    Written::Bytes(pieces::write(net, first, readable, out))
+}
