@@ -17,9 +17,8 @@ decimal digits to a field: the old input state, the new one, the start, the size
 the note and the data, a sheet or jobs. States are written here as in the papers, the first letter or key node first, or as numbers where they are
 no states. The two bench examples on the NOR gate's inner vertex ask for an excitation, and stand in verdict_cases.py.
 """
-import pathlib
-
 import settle_model
+from case_files import store
 from sheets import *
 
 CASES = []
@@ -403,13 +402,5 @@ refuses_all(41, b"", "41 for an empty batch too", (1, 1))
 refuses_all(41, job(0, 0, 0), "41 with room enough", (2, 3))
 
 if __name__ == "__main__":
-    here = pathlib.Path(__file__).parent.parent / "crates" / "settle_cases"
-    given, wanted = b"", b""
-    for kind, numbers, data, answer, note in CASES:
-        text = note.encode()
-        given += kind + field(len(text)) + b"".join(large(n) for n in numbers) + large(len(data)) + text + data
-        wanted += answer + b" " + text + b"\n"
-    assert len(given) <= 256048, "the program reads no more than its buffer holds"
-    here.mkdir(exist_ok=True)
-    (here / "stdin").write_bytes(given)
-    (here / "stdout").write_bytes(wanted)
+    store("settle_cases", CASES, lambda kind, numbers, data, text: (
+        kind + field(len(text)) + b"".join(large(n) for n in numbers) + large(len(data)) + text + data), 256048)

@@ -7,15 +7,8 @@ output of the test program `sheet_cases`. The expected numbers are worked out he
 A case in the input: its kind (one byte), the length of its note in four columns, the note, a number in four columns (0 unless the case is one
 line of a sheet), the length of its bytes in four columns, the bytes. The program prints an answer and the note on a line for each.
 """
-import pathlib
-
-
-def field(n):
-    return b"%4d" % n
-
-
-def line(*numbers):
-    return b"".join(field(n) for n in numbers) + b"\n"
+from case_files import store
+from sheets import field, line
 
 
 def sheet(*lines):
@@ -171,12 +164,5 @@ job((46, 0, 0, 0), "row 46: last field 1", line(4, 0, 1, 1, 1))
 job((46, 0, 0, 0), "row 46: a leading zero", b"   4  00   1   1   0\n")
 job((46, 0, 0, 0), "row 46: without byte 10", b"   4   0   1   1   0 ")
 
-here = pathlib.Path(__file__).parent.parent / "crates" / "sheet_cases"
-given, wanted = b"", b""
-for kind, number, data, answer, note in CASES:
-    text = note.encode()
-    given += kind + field(len(text)) + text + field(number) + field(len(data)) + data
-    wanted += answer + b" " + text + b"\n"
-here.mkdir(exist_ok=True)
-(here / "stdin").write_bytes(given)
-(here / "stdout").write_bytes(wanted)
+store("sheet_cases", CASES, lambda kind, number, data, text: (
+    kind + field(len(text)) + text + field(number) + field(len(data)) + data), 65536)

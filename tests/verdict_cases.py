@@ -14,8 +14,7 @@ A case in the input: its kind (one byte), the length of its note, the input stat
 the sheet. The lengths have four columns; the other three numbers have three fields of four columns each, four decimal digits to a field.
 The report's networks stand in sheets.py; the notes say which sentence of the report a sheet is made to satisfy.
 """
-import pathlib
-
+from case_files import store
 from sheets import *
 
 CASES = []
@@ -393,13 +392,5 @@ excitation(42, 0, "42 before 43 and 48", 4, 4, 0)
 excitation(42, 0, "42 before 48", 4, 0, 7)
 excitation(43, 0, "43 before 48", 0, 4, 0)
 
-here = pathlib.Path(__file__).parent.parent / "crates" / "verdict_cases"
-given, wanted = b"", b""
-for kind, numbers, data, answer, note in CASES:
-    text = note.encode()
-    given += kind + field(len(text)) + b"".join(large(n) for n in numbers) + field(len(data)) + text + data
-    wanted += answer + b" " + text + b"\n"
-assert len(given) <= 65536, "the program reads no more than its buffer holds"
-here.mkdir(exist_ok=True)
-(here / "stdin").write_bytes(given)
-(here / "stdout").write_bytes(wanted)
+store("verdict_cases", CASES, lambda kind, numbers, data, text: (
+    kind + field(len(text)) + b"".join(large(n) for n in numbers) + field(len(data)) + text + data), 65536)
