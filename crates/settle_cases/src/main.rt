@@ -103,19 +103,18 @@ fn print_signal(byte: u8) {
     }
 }
 
-fn print_signals(buffer: &[u8]) {
-    for i in 0..buffer.len() {
-        print_signal(buffer[i]);
+// A byte of a buffer, as a signal or as a number in four columns.
+fn print_byte(byte: u8, in_columns: bool) {
+    if in_columns {
+        print_column(byte as u64);
+    } else {
+        print_signal(byte);
     }
 }
 
-fn print_number(byte: u8) {
-    print_column(byte as u64);
-}
-
-fn print_numbers(buffer: &[u8]) {
+fn print_bytes(buffer: &[u8], in_columns: bool) {
     for i in 0..buffer.len() {
-        print_number(buffer[i]);
+        print_byte(buffer[i], in_columns);
     }
 }
 
@@ -127,18 +126,18 @@ fn print_settling(net: Net, old: u32, new: u32, start: u32, r: &mut [u8], t: &mu
     print_column(answer.first_steps as u64);
     print_column(answer.second_steps as u64);
     io::write_all(STDOUT_FILENO, b" ");
-    print_signals(r);
+    print_bytes(r, false);
     io::write_all(STDOUT_FILENO, b" ");
-    print_signals(t);
+    print_bytes(t, false);
 }
 
 // A batch: number, place, and both buffers whole.
 fn print_batch(net: Net, jobs: &[u8], results: &mut [u8], answers: &mut [u8]) {
     print_place(settling::batch(net, jobs, results, answers));
     io::write_all(STDOUT_FILENO, b" ");
-    print_signals(results);
+    print_bytes(results, false);
     io::write_all(STDOUT_FILENO, b" ");
-    print_numbers(answers);
+    print_bytes(answers, true);
 }
 
 // The size that the case gives for a lent buffer, at most all of it.
