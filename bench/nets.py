@@ -1,13 +1,14 @@
 """Nets for the benchmark, each as the bytes of a sheet. Nothing is random: the same nets are made every time."""
+import sheets
+from sheets import N, P, N_PRIMED, P_PRIMED
 
 ZERO, ONE = 1, 2  # the two input vertices that carry 0 and 1
-N, P, N_PRIMED, P_PRIMED = 0, 1, 2, 3
 
 
 class Net:
     def __init__(self, letters):
         self.letters = letters
-        self.vertices = [(0, 0), (0, 1)]
+        self.vertices = [sheets.ZERO, sheets.ONE]
         self.edges = []
         self.gates = {}  # the groups of each vertex that is pulled, by its number
 
@@ -42,20 +43,19 @@ class Net:
         self.edge(y, ZERO, P, symbol)
         self.edge(y, ZERO, N_PRIMED, symbol)
 
+    def key_nodes(self):
+        return [v for v in range(1, len(self.vertices) + 1) if any(edge[3] == symbol(v) for edge in self.edges)]
+
     def sheet(self):
-        def line(*numbers):
-            return b"".join(b"%4d" % n for n in numbers) + b"\n"
-        return (line(1, len(self.vertices), len(self.edges), self.letters, 1)
-                + b"".join(line(2, i + 1, role, label, 0) for i, (role, label) in enumerate(self.vertices))
-                + b"".join(line(3, *edge) for edge in self.edges))
+        return sheets.sheet(self.letters, self.vertices, self.edges)
 
 
-def symbol(v):
-    return 100 + v
+symbol = sheets.vertex
 
 
 def letter(j):
-    return 11 + j % 8
+    """By turns each of eight letters, the first at 0."""
+    return sheets.letter(1 + j % 8)
 
 
 def groups(symbols):

@@ -1,66 +1,95 @@
 #!/usr/bin/env python3
-"""Instructions that reading, the verdict, settling and batches take on the nets of nets.py, counted by valgrind.
+"""Instructions that the program takes, and that reading, the verdict, settling and batches take, on the nets of nets.py, counted by valgrind.
 
-Run it at the top of the repository, after `rt check verdict_cases settle_cases`. A count is the difference between two runs of a test program, so the
-start of the process and the test program's own work are not in it.
+    python3 bench/run.py [YARDSTICK]
+
+builds the programs, makes the nets and the jobs, and prints three tables. A count is the difference between two runs, so the start of the process and the
+test program's own work are not in it. YARDSTICK is another program that reads `net` and `jobs` and writes the same text: the first table then
+tells how many times its instructions `settle` takes.
 """
+import pathlib
 import re
 import subprocess
 import sys
-import pathlib
 import tempfile
 
 HERE = pathlib.Path(__file__).resolve().parent
-sys.path.insert(0, str(HERE))
+sys.path[:0] = [str(HERE), str(HERE.parent / "tests")]
 from jobs import jobs
 from nets import NETS
+from sheets import field, large
 
 PROGRAMS = HERE.parent / "target" / "bin"
-BATCHED = ("small", "limits", "chain", "key chain")
-COUNTS = (100, 1000, 9999)
-
-
-def columns(*numbers):
-    return b"".join(b"%4d" % n for n in numbers)
-
-
-def large(n):
-    """Three fields of four columns, four decimal digits to a field."""
-    return columns(n // 10 ** 8, n // 10 ** 4 % 10 ** 4, n % 10 ** 4)
+MOST_JOBS = 9999
+COUNTS = (100, 1000, MOST_JOBS)
+WITH_JOBS = ("small", "limits", "chain", "chain, other order", "key chain")
+LINE = 21
 
 
 def verdict_case(kind, sheet=b""):
     """A case as tests/verdict_cases.py lays it out: no note, and all numbers 0."""
-    return kind + columns(*[0] * 10, len(sheet)) + sheet
+    return kind + field(0) * 10 + field(len(sheet)) + sheet
 
 
 def settle_case(kind, data=b"", asked=(0, 0, 0), sizes=(0, 0)):
     """A case as tests/settle_cases.py lays it out, without a note."""
-    return kind + columns(0) + b"".join(large(n) for n in (*asked, *sizes, len(data))) + data
+    return kind + field(0) + b"".join(large(n) for n in (*asked, *sizes, len(data))) + data
+
+
+def counted(program, **place):
+    """Instructions, and what is written."""
+    run = subprocess.run(["valgrind", "--tool=callgrind", "--callgrind-out-file=/dev/null", str(program)], capture_output=True, check=True, **place)
+    return int(re.search(rb"Collected : (\d+)", run.stderr).group(1)), run.stdout.decode()
 
 
 def count(program, cases):
-    """Instructions, and the lines written. The input is a file, so that one read takes it all."""
+    """Instructions, and the lines written, of a test program. The input is a file, so that one read takes it all."""
     with tempfile.TemporaryFile() as given:
         given.write(cases)
         given.seek(0)
-        run = subprocess.run(["valgrind", "--tool=callgrind", "--callgrind-out-file=/dev/null", str(PROGRAMS / program)],
-                             stdin=given, capture_output=True, check=True)
-    return int(re.search(rb"Collected : (\d+)", run.stderr).group(1)), run.stdout.decode().splitlines()
+        instructions, text = counted(PROGRAMS / program, stdin=given)
+    return instructions, text.splitlines()
+
+
+def whole(program, sheet, lines):
+    """Instructions and text of a program that reads the two files."""
+    with tempfile.TemporaryDirectory() as folder:
+        (pathlib.Path(folder) / "net").write_bytes(sheet)
+        (pathlib.Path(folder) / "jobs").write_bytes(lines)
+        return counted(program, cwd=folder)
+
+
+def programs(yardstick):
+    """The program on both files, less its run on two empty ones."""
+    print("%-20s %8s %16s %14s" % ("net", "jobs", "instructions", "a job"))
+    settle = PROGRAMS / "settle"
+    start = whole(settle, b"", b"")[0]
+    yardstick_start = whole(yardstick, b"", b"")[0] if yardstick else 0
+    for name, net in NETS.items():
+        lines = jobs(net, MOST_JOBS) if name in WITH_JOBS else b""
+        taken, text = whole(settle, net.sheet(), lines)
+        without = whole(settle, net.sheet(), b"")[0]
+        many = len(lines) // LINE
+        row = "%-20s %8s %16s %14s" % (name, f"{many:,}", f"{taken - start:,}", f"{(taken - without) // many:,}" if many else "")
+        if yardstick:
+            other, other_text = whole(yardstick, net.sheet(), lines)
+            row += "   %.1f times the yardstick%s" % ((taken - start) / (other - yardstick_start), "" if text == other_text else ", and the texts differ")
+        print(row)
 
 
 def verdicts():
-    print("%-20s %8s %8s %14s %14s" % ("net", "vertices", "edges", "reading", "verdict"))
+    """The test program reads the sheet anew for each case, so a verdict is what its case takes more than a case that only reads."""
+    print("\n%-20s %8s %8s %16s %14s" % ("net", "vertices", "edges", "reading", "verdict"))
     for name, net in NETS.items():
         reading, verdict = verdict_case(b"N", net.sheet()), verdict_case(b"V")
         once, lines = count("verdict_cases", reading + verdict)
         again, _ = count("verdict_cases", reading + reading + verdict)
         twice, _ = count("verdict_cases", reading + verdict + verdict)
-        print("%-20s %8d %8d %14s %14s   answers%s" % (name, len(net.vertices), len(net.edges), f"{again - once:,}", f"{twice - once:,}", lines[1].rstrip()))
+        print("%-20s %8d %8d %16s %14s   answers%s" % (name, len(net.vertices), len(net.edges), f"{again - once:,}", f"{twice - again:,}", lines[1].rstrip()))
 
 
 def batch(kind, lines, h):
-    return settle_case(kind, lines, sizes=(len(lines) // 21 * 2 * h, len(lines) // 21 * 3))
+    return settle_case(kind, lines, sizes=(len(lines) // LINE * 2 * h, len(lines) // LINE * 3))
 
 
 def added(case, before):
@@ -71,24 +100,26 @@ def added(case, before):
 def settlings():
     """One settling; a batch of no jobs, which is what a batch prepares; and what each job of a batch adds to that. The program reads its sheet anew
     for each case and fills the buffers, so both costs are taken off: the second is that of a batch that is refused at once."""
-    print("\n%-20s %14s %14s" % ("net", "one settling", "no jobs") + "".join("%17s" % f"a job of {n:,}" for n in COUNTS))
+    print("\n%-20s %16s %14s" % ("net", "one settling", "no jobs") + "".join("%17s" % f"a job of {n:,}" for n in COUNTS))
     none = batch(b"T", b"", 0)
     filling = added(none, settle_case(b"N") + none)
-    for name in BATCHED:
+    for name in WITH_JOBS:
         net, lines = NETS[name], jobs(NETS[name], COUNTS[-1])
-        h = len({edge[3] for edge in net.edges if edge[3] > 100})
+        h = len(net.key_nodes())
         sheet = settle_case(b"N", net.sheet())
-        _, (_, shown) = count("settle_cases", sheet + batch(b"B", lines[:21 * COUNTS[0]], h))
+        _, (_, shown) = count("settle_cases", sheet + batch(b"B", lines[:LINE * COUNTS[0]], h))
         answers = [int(shown.rstrip()[-4 * n:][:4]) for n in range(3 * COUNTS[0], 0, -3)]
         assert not any(answers), "a job is refused"
         one = settle_case(b"S", asked=[int(lines[4 * i:4 * i + 4]) for i in (1, 2, 3)], sizes=(h, h))
         reading = added(sheet, sheet + none)
         settling = added(one, sheet + none) - reading
         preparing = added(none, sheet + none) - reading - filling
-        each = [(added(batch(b"T", lines[:21 * n], h), sheet) - added(none, sheet)) // n for n in COUNTS]
-        print("%-20s %14s %14s" % (name, f"{settling:,}", f"{preparing:,}") + "".join("%17s" % f"{n:,}" for n in each))
+        each = [(added(batch(b"T", lines[:LINE * n], h), sheet) - added(none, sheet)) // n for n in COUNTS]
+        print("%-20s %16s %14s" % (name, f"{settling:,}", f"{preparing:,}") + "".join("%17s" % f"{n:,}" for n in each))
 
 
 if __name__ == "__main__":
+    subprocess.run(["rt", "check", "settle", "verdict_cases", "settle_cases"], cwd=HERE.parent, stdout=subprocess.DEVNULL, check=True)
+    programs(sys.argv[1] if len(sys.argv) > 1 else None)
     verdicts()
     settlings()
