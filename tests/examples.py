@@ -1,0 +1,51 @@
+#!/usr/bin/env python3
+"""The second check of examples/: that each net is the one that the other tests use, and that each line of `expected` is what the model of the
+definitions gives. The lines are worked out by hand in the folders' READMEs; none is taken from the program, which examples/run compares.
+"""
+import pathlib
+import sys
+
+import sheets
+import settle_model
+
+EXAMPLES = pathlib.Path(__file__).parent.parent / "examples"
+NETS = {
+    "worked": sheets.WORKED,
+    "nor-latch": sheets.NOR_LATCH,
+    "three-nands": sheets.THREE_NANDS,
+    "d-flip-flop": sheets.FLIP_FLOP,
+    "tally": sheets.TALLY,
+}
+
+
+def text(sheet, jobs):
+    """What is printed for a well formed net and whole job lines. The model has no verdict; that of these nets is the report's."""
+    net = settle_model.Net(sheet)
+    h = len(net.keys)
+    lines = ["%4d%4d%4d%4d" % (0, 0, 0, h)]
+    for n, job in enumerate(jobs.decode().splitlines(), 1):
+        _, old, new, start, _ = [int(job[i:i + 4]) for i in range(0, 20, 4)]
+        number, first, second, r, t = net.job(old, new, start, True)
+        if number:
+            r = t = "-" * h
+        lines.append("%4d%4d%4d%4d %s %s" % (n, number, first, second, r, t))
+    return "".join(line + "\n" for line in lines).encode()
+
+
+def read(folder, name):
+    return (EXAMPLES / folder / name).read_bytes()
+
+
+def agrees(folder):
+    return read(folder, "net") == NETS[folder] and read(folder, "expected") == text(NETS[folder], read(folder, "jobs"))
+
+
+def main():
+    folders = sorted(f.name for f in EXAMPLES.iterdir() if f.is_dir())
+    answers = [folder in NETS and agrees(folder) for folder in folders]
+    for folder, answer in zip(folders, answers):
+        print(folder + (": as in the model" if answer else ": DIFFERS"))
+    sys.exit(0 if all(answers) else 1)
+
+
+main()
