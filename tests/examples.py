@@ -1,8 +1,10 @@
 #!/usr/bin/env python3
 """The second check of examples/: that each net is the one that the other tests use, and that each line of `expected` is what the model of the
-definitions gives. The lines are worked out by hand in the folders' READMEs; none is taken from the program, which examples/run compares.
+definitions gives. The lines are worked out by hand in the folders' READMEs; none is taken from the program, which examples/run compares. The lines
+and jobs that a README explains must be all of those in the files.
 """
 import pathlib
+import re
 import sys
 
 import sheets
@@ -36,8 +38,17 @@ def read(folder, name):
     return (EXAMPLES / folder / name).read_bytes()
 
 
+def explained(folder):
+    """The lines and the jobs in the table of a README, as the files would have them."""
+    rows = re.findall(r"^\| `([^`]*)` \| (?:`([^`]*)`)?", read(folder, "README.md").decode(), re.MULTILINE)
+    lines = "".join(line + "\n" for line, _ in rows)
+    jobs = b"".join(sheets.line(*map(int, job.split())) for _, job in rows if job)
+    return lines.encode(), jobs
+
+
 def agrees(folder):
-    return read(folder, "net") == NETS[folder] and read(folder, "expected") == text(NETS[folder], read(folder, "jobs"))
+    jobs, expected = read(folder, "jobs"), read(folder, "expected")
+    return read(folder, "net") == NETS[folder] and expected == text(NETS[folder], jobs) and explained(folder) == (expected, jobs)
 
 
 def main():
