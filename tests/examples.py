@@ -48,7 +48,7 @@ def explained(folder):
 
 def agrees(folder):
     jobs, expected = read(folder, "jobs"), read(folder, "expected")
-    return read(folder, "net") == NETS[folder] and expected == text(NETS[folder], jobs) and explained(folder) == (expected, jobs)
+    return read(folder, "net") == NETS[folder] and explained(folder) == (expected, jobs) and expected == text(NETS[folder], jobs)
 
 
 def main():
