@@ -2,8 +2,8 @@
 
 ghost use mathlib.Core.Path.{_≡_};
 ghost use mathlib.Core.Bool.{cond};
-ghost use Prim.Native.Nat.{_+_, _-_, _/_, _%_, _<_};
-ghost use lib.Dec.{eqb, ltb};
+ghost use Prim.Native.Nat.{_+_, _-_, _%_};
+ghost use lib.Dec.{eqb};
 ghost use lib.ListN.{length};
 ghost use Rattle.ternary.specs.Lists.{same};
 ghost use Rattle.sheet.specs.Limits.{fieldWidth, blank, digitZero};
@@ -13,24 +13,24 @@ use sheet::Field;
 use sheet::Sheet;
 
 // Numbers are decimal.
-const BASE: u32 = 10;
+const BASE: u64 = 10;
 
 // What a column counts: bytes below the digits, a blank among them, count 0.
-fn digit(column: u8) -> u32
+fn digit(column: u8) -> u64
     ensures { λ r. ⌜ r ≡ column - digitZero ⌝ }
 {
     if column < Sheet::DIGIT_ZERO {
         return 0;
     }
-    (column - Sheet::DIGIT_ZERO) as u32
+    (column - Sheet::DIGIT_ZERO) as u64
 }
 
 // The number in the columns, whatever bytes they hold.
-fn value(b: &[u8]) -> u32
+fn value(b: &[u8]) -> u64
     requires { ⌜ length (now b) ≡ fieldWidth ⌝ }
     ensures { λ r. ⌜ r ≡ fieldValue (now (b .entry)) ⌝ }
 {
-    let mut n: u32 = 0;
+    let mut n: u64 = 0;
     for i in 0..Sheet::FIELD_WIDTH {
         n = n * BASE + digit(b[i]);
     }
@@ -38,14 +38,14 @@ fn value(b: &[u8]) -> u32
 }
 
 // The byte of n's last digit.
-fn last_column(n: u32) -> u8
+fn last_column(n: u64) -> u8
     ensures { λ r. ⌜ r ≡ digitZero + n % 10 ⌝ }
 {
     Sheet::DIGIT_ZERO + (n % BASE) as u8
 }
 
 // A column left of the last, n being the number without the digits to its right: blank before the first digit.
-fn left_column(n: u32) -> u8
+fn left_column(n: u64) -> u8
     ensures { λ r. ⌜ r ≡ cond (eqb n 0) blank (digitZero + n % 10) ⌝ }
 {
     if n == 0 {
@@ -55,7 +55,7 @@ fn left_column(n: u32) -> u8
 }
 
 // Are these the columns of n? They are compared from the right, each time with one digit of n less.
-fn is_field(b: &[u8], n: u32) -> bool
+fn is_field(b: &[u8], n: u64) -> bool
     requires { ⌜ length (now b) ≡ fieldWidth ⌝ }
     ensures { λ r. ⌜ r ≡ same (now (b .entry)) (writeField fieldWidth n) ⌝ }
 {
@@ -88,25 +88,14 @@ pub fn read_field(b: &[u8]) -> Field
     Field::Refused
 }
 
-// The column of n that has this weight: blank before the first digit.
-fn weighted_column(n: u64, weight: u64) -> u8
-    requires { ⌜ 0 < weight ⌝ }
-    ensures { λ r. ⌜ r ≡ cond (ltb n weight) blank (digitZero + n / weight % 10) ⌝ }
-{
-    if n < weight {
-        return Sheet::BLANK;
-    }
-    Sheet::DIGIT_ZERO + (n / weight % 10) as u8
-}
-
 // The four columns of n; of a number of more digits the last four.
 pub fn columns(n: u64) -> [u8; Sheet::FIELD_WIDTH]
     ensures { λ r. ⌜ r ≡ writeNumber n ⌝ }
 {
     [
-        weighted_column(n, 1000),
-        weighted_column(n, 100),
-        weighted_column(n, 10),
-        Sheet::DIGIT_ZERO + (n % 10) as u8,
+        left_column(n / 1000),
+        left_column(n / 100),
+        left_column(n / BASE),
+        last_column(n),
     ]
 }

@@ -55,7 +55,7 @@ sum-end b i n s size h =
 -- ---- the columns of a number
 
 -- a column left of the last, from the number without the digits to its right
-left-digit : (n k : ℕ) → column n (suc k) ≡ cond (eqb (n / 10 ^ suc k) 0) blank (digitZero + n / 10 ^ suc k % 10)
+pub left-digit : (n k : ℕ) → column n (suc k) ≡ cond (eqb (n / 10 ^ suc k) 0) blank (digitZero + n / 10 ^ suc k % 10)
 unfolding column
 left-digit n k =
     let pos : 0 < 10 ^ suc k = one-le-pow (suc k) 10 (lit< tt) in
