@@ -1,10 +1,10 @@
 -- A loop that goes over a list from the front and stores one entry a turn. Assumes nothing.
-use mathlib.Core.Path.{_≡_, refl, sym, subst, _∙_}
+use mathlib.Core.Path.{_≡_, refl, sym, ap, subst, _∙_}
 use mathlib.Core.Logic.{_⊎_, inl, inr}
-use mathlib.Core.List.{List, map}
-use Prim.Native.Nat.{ℕ, _+_, _≤_, _<_}
+use mathlib.Core.List.{List, _∷_, map}
+use Prim.Native.Nat.{ℕ, zero, suc, _+_, _≤_, _<_}
 use native.Mathlib.Omega.{arith}
-use lib.ListN.{length, getD, set, length-set, replicate, length-replicate, getD-replicate, length-map, List·getD-eq-default}
+use lib.ListN.{length, take, getD, set, length-set, replicate, length-replicate, getD-replicate, length-map, List·getD-eq-default}
 use lib.Seq.{getD-set-same, getD-set-other, ext-getD}
 use Rattle.ternary.specs.Lists.{table}
 use Rattle.ternary.proofs.ListLaws.{below-cases, length-table, getD-table}
@@ -30,6 +30,11 @@ pub zeros-read : (n j : ℕ) → getD (zeros n) j 0 ≡ 0
 zeros-read n j = by-test (ltb j n)
     (λ h. getD-replicate n j _ _ (ltb-true j n h))
     (λ h. List·getD-eq-default (zeros n) 0 (omega (arith, ltb-false j n h, length-replicate {A = ℕ} n 0)))
+
+pub zeros-part : (k n : ℕ) → k ≤ n → take k (zeros n) ≡ zeros k
+zeros-part zero n h = refl
+zeros-part (suc k) zero h = absurd (omega arith)
+zeros-part (suc k) (suc n) h = ap (λ (l : List ℕ). 0 ∷ l) (zeros-part k n (omega arith))
 
 pub fill-zeros : {f : ℕ → ℕ} (n : ℕ) → Filled n f (λ j. 0) (zeros n) 0
 fill-zeros n = record { size = length-replicate n _; stored = λ j l. absurd (omega arith); kept = λ j l. zeros-read n j }

@@ -2,20 +2,22 @@
 use Prim.Native.Nat.{ℕ, zero, suc, _+_, _*_, _≤_, _<_}
 use native.Mathlib.Omega.{arith}
 use mathlib.Core.Path.{_≡_, refl, sym, ap, _∙_}
+use mathlib.Core.Bool.{cond}
 use mathlib.Core.Logic.{inl, inr, ⊎-elim, _↔_, _≢_}
 use mathlib.Core.List.{List, [], _∷_, _++_, map, append-assoc}
-use lib.ListN.{length, take, drop, replicate, length-append, length-drop}
+use lib.Dec.{eqb}
+use lib.ListN.{length, take, drop, replicate, length-drop, getD-replicate}
 use lib.Seq.{take-at, drop-at, take-all, drop-drop, getD-take, length-take-le}
 use borrow.Author.Tests.{ne-eqb}
 use Rattle.ternary.specs.Signal.{Against, at}
+use Rattle.ternary.proofs.Tests.{by-test}
 use Rattle.net.proofs.Classes.{getD-map-lt}
 use Rattle.sheet.specs.Limits.{fieldWidth, blank, digitZero, lineEnd}
 use Rattle.sheet.specs.Line.{writeNumber}
-use Rattle.sheet.proofs.FieldLaws.{length-field}
-use Rattle.output.specs.Limits.{hyphen}
+use Rattle.output.specs.Limits.{letterX, hyphen}
 use Rattle.output.specs.Text.{character, vectorText, jobText}
 use Rattle.output.specs.Printed.{printedNumbers, printedR, printedT, AgainstPrinted}
-use Rattle.output.proofs.Lengths.{length-vector}
+use Rattle.output.proofs.Lengths.{length-four, length-vector}
 
 -- ---- one character
 
@@ -28,6 +30,17 @@ pub character-one : (s : ℕ) → (character s ≡ suc digitZero) ↔ (s ≡ 1)
 character-one zero = (λ e. absurd (omega arith), λ e. absurd (omega arith))
 character-one (suc zero) = (λ _. refl, λ _. refl)
 character-one (suc (suc s)) = (λ e. absurd (omega arith), λ e. absurd (omega arith))
+
+-- as the code chooses it
+pub digit-character : (s : ℕ) → s ≤ 1 → digitZero + s ≡ character s
+digit-character zero h = refl
+digit-character (suc zero) h = refl
+digit-character (suc (suc s)) h = absurd (omega arith)
+
+pub other-character : (s : ℕ) → 1 < s → letterX ≡ character s
+other-character zero h = absurd (omega arith)
+other-character (suc zero) h = absurd (omega arith)
+other-character (suc (suc s)) h = refl
 
 -- a value is against a printed 0 or 1 exactly if it is against the signal
 pub character-against : (s v : ℕ) → AgainstPrinted (character s) v ↔ Against s v
@@ -49,10 +62,17 @@ pub vector-refused : (h number : ℕ) (vector : List ℕ) → number ≢ 0 → v
 unfolding vectorText
 vector-refused h number vector refused = rw (ne-eqb number 0 refused)
 
-pub vector-at : (h : ℕ) (vector : List ℕ) (k : ℕ) → k < h → h ≤ length vector → at (vectorText h 0 vector) k ≡ character (at vector k)
+-- character k, under any answer and under answer 0
+pub vector-entry : (h number : ℕ) (vector : List ℕ) → h ≤ length vector → (k : ℕ) → k < h
+    → at (vectorText h number vector) k ≡ cond (eqb number 0) (character (at vector k)) hyphen
 unfolding vectorText
-vector-at h vector k inside fits =
-    getD-map-lt character (take h vector) k (rw (length-take-le h vector fits) inside) ∙ ap character (getD-take h vector k 0 inside)
+vector-entry h number vector fits k inside =
+    by-test (eqb number 0)
+    (λ e. rw (e, getD-map-lt character (take h vector) k (rw (length-take-le h vector fits) inside), getD-take h vector k 0 inside))
+    (λ e. rw e (getD-replicate h k hyphen 0 inside))
+
+pub vector-at : (h : ℕ) (vector : List ℕ) (k : ℕ) → k < h → h ≤ length vector → at (vectorText h 0 vector) k ≡ character (at vector k)
+vector-at h vector k inside fits = vector-entry h 0 vector fits k inside
 
 -- ---- the parts of a job's line
 
@@ -71,7 +91,7 @@ module _ (h n : ℕ) (three own : List ℕ) (size : length own ≡ 2 * h) where
   parts = simp append-assoc
 
   numbers-length : length numbers ≡ 4 * fieldWidth
-  numbers-length = simp (length-append, length-field)
+  numbers-length = length-four n (at three 0) (at three 1) (at three 2)
 
   r-length : length r ≡ h
   r-length = length-vector h (at three 0) own (omega arith)

@@ -1,17 +1,17 @@
 -- The lines of the jobs: what they are where the jobs are run, and how long.
-use Prim.Native.Nat.{ℕ, suc, _-_, _*_, _≤_}
+use Prim.Native.Nat.{ℕ, _*_, _≤_}
 use native.Mathlib.Nat.{mul-le-mul}
 use native.Mathlib.Omega.{arith}
 use mathlib.Core.Path.{_≡_, _∙_}
 use mathlib.Core.List.{List, []}
-use lib.Dec.{eqb, ltb}
-use lib.ListN.{length, take, replicate, length-take, length-replicate}
-use borrow.Author.Tests.{eqb-true, eq-eqb, ltb-false}
-use Rattle.ternary.proofs.Tests.{by-test, cond-by}
+use lib.Dec.{eqb}
+use lib.ListN.{length, length-replicate}
+use borrow.Author.Tests.{eqb-true, eq-eqb}
+use Rattle.ternary.proofs.Tests.{by-test}
 use Rattle.net.specs.declared.Net.{Net}
 use Rattle.net.specs.Limits.{mostKeyNodes}
 use Rattle.net.specs.Graph.{keyCount}
-use Rattle.sheet.specs.Limits.{lineWidth}
+use Rattle.net.proofs.Filling.{zeros}
 use Rattle.sheet.specs.Reading.{readSheet}
 use Rattle.sheet.proofs.Known.{valid-keys}
 use Rattle.verdict.specs.Verdict.{verdictOf}
@@ -19,16 +19,13 @@ use Rattle.settlements.specs.Batch.{jobCount, jobWidth, answerWidth, Buffers, r
 use Rattle.settlements.proofs.BatchLaws.{length-pieces}
 use Rattle.settlements.proofs.PieceLaws.{jobsOf}
 use Rattle.settlements.proofs.RunLaws.{results-length, answers-length}
-use Rattle.output.specs.Limits.{mostJobs, pieceJobs, jobBytes, pieceBytes}
+use Rattle.output.specs.Limits.{pieceJobs, jobBytes, pieceBytes}
 use Rattle.output.specs.Text.{jobTexts}
-use Rattle.output.specs.Output.{goesOn, jobsText}
+use Rattle.output.specs.Output.{goesOn, netText, jobsText}
 use Rattle.output.specs.Calls.{readLines}
 use Rattle.output.proofs.Lengths.{length-jobs}
+use Rattle.output.proofs.ReadLines.{read-few, jobs-few}
 use Rattle.output.proofs.GoesOn.{Runs, runs-iff, batch-runs}
-
--- n bytes of 0
-abbrev pub zeros : ℕ → List ℕ
-zeros n = replicate n 0
 
 -- what the jobs write into buffers of just the size they need
 abbrev pub jobsRun : Net → List ℕ → Buffers
@@ -50,12 +47,12 @@ module _ (sheet : List ℕ) where
 
   pub printed : Prints → (n : ℕ) (lines : List ℕ)
       → jobsText sheet n lines ≡ jobTexts (keyCount (readSheet sheet .net)) (jobCount lines) n (jobsRun (readSheet sheet .net) lines .results) (jobsRun (readSheet sheet .net) lines .answers)
-  unfolding jobsText
+  unfolding jobsText netText
   printed p n lines = rw (eq-eqb (readSheet sheet .answer .number) 0 (p .0), runs-iff (readSheet sheet .net) .1 (p .1), batch-runs (readSheet sheet .net) lines (p .1))
 
   -- the jobs are run, or there is no line of any job
   pub by-prints : {G : Type 0} → (Prints → G) → (((n : ℕ) (lines : List ℕ) → jobsText sheet n lines ≡ []) → G) → G
-  unfolding jobsText
+  unfolding jobsText netText
   by-prints f g =
       by-test (eqb (readSheet sheet .answer .number) 0)
       (λ e. by-test (goesOn (verdictOf (readSheet sheet .net) .number))
@@ -76,13 +73,6 @@ module _ (sheet : List ℕ) where
       rw (length-printed p n lines) (mul-le-mul (omega arith) (omega arith)))
       (λ none. rw (none n lines) (omega arith))
 
-  pub piece-fits : (n : ℕ) (lines : List ℕ) → jobCount lines ≤ pieceJobs → length (jobsText sheet n lines) ≤ pieceBytes
-  piece-fits n lines few = omega (arith, jobs-fit n lines)
-
--- no more lines are read than a piece has
-pub piece-count : (n : ℕ) (lines : List ℕ) → jobCount (readLines n lines) ≤ pieceJobs
-unfolding readLines jobCount
-piece-count n lines =
-    cond-by (λ (k : ℕ). jobCount (take (k * lineWidth) lines) ≤ pieceJobs) (ltb pieceJobs (suc mostJobs - n))
-    (λ _. rw length-take (omega arith))
-    (λ e. let most = ltb-false pieceJobs (suc mostJobs - n) e in rw length-take (omega arith))
+  -- the room that a piece asks for is enough for the lines that are read
+  pub piece-fits : (n : ℕ) (lines : List ℕ) → length (jobsText sheet n (readLines n lines)) ≤ pieceBytes
+  piece-fits n lines = omega (arith, jobs-fit n (readLines n lines), jobs-few pieceJobs (readLines n lines) (read-few n lines))

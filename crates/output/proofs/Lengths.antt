@@ -3,13 +3,13 @@ use Prim.Native.Nat.{ℕ, zero, suc, _+_, _*_, _≤_}
 use native.Mathlib.Nat.{zero-mul, suc-mul}
 use native.Mathlib.Omega.{arith}
 use mathlib.Core.Path.{_≡_, sym, _∙_}
-use mathlib.Core.List.{List}
+use mathlib.Core.List.{List, [], _∷_, _++_}
 use lib.Dec.{eqb}
 use lib.ListN.{length, take, drop, length-append, length-drop, length-map, length-replicate}
 use lib.Seq.{length-take-le}
 use Rattle.ternary.specs.Signal.{at}
 use Rattle.ternary.proofs.Tests.{cond-by}
-use Rattle.sheet.specs.Limits.{fieldWidth}
+use Rattle.sheet.specs.Limits.{fieldWidth, blank, lineEnd}
 use Rattle.sheet.specs.Line.{writeNumber}
 use Rattle.sheet.specs.declared.Answer.{Answer}
 use Rattle.sheet.specs.Reading.{readSheet}
@@ -21,6 +21,9 @@ use Rattle.output.specs.Output.{firstLine, openingText}
 
 pub length-number : (n : ℕ) → length (writeNumber n) ≡ fieldWidth
 length-number n = length-field fieldWidth n
+
+pub length-four : (a b c d : ℕ) → length (writeNumber a ++ writeNumber b ++ writeNumber c ++ writeNumber d) ≡ 4 * fieldWidth
+length-four a b c d = simp (length-append, length-field)
 
 -- ---- the first line
 
@@ -39,6 +42,13 @@ pub length-vector : (h number : ℕ) (vector : List ℕ) → h ≤ length vector
 unfolding vectorText
 length-vector h number vector fits =
     cond-by (λ (l : List ℕ). length l ≡ h) (eqb number 0) (λ _. rw length-map (length-take-le h vector fits)) (λ _. length-replicate h hyphen)
+
+-- r and t, each after a blank, and the end of the line
+pub length-both : (h number : ℕ) (own : List ℕ) → length own ≡ 2 * h
+    → length (blank ∷ (vectorText h number own ++ blank ∷ (vectorText h number (drop h own) ++ lineEnd ∷ []))) ≡ 2 * h + 3
+length-both h number own e =
+    let second : h ≤ length (drop h own) = simp length-drop (omega arith) in
+    simp (length-append, length-vector h number own (omega arith), length-vector h number (drop h own) second) (omega arith)
 
 pub length-job : (h n : ℕ) (three own : List ℕ) → length own ≡ 2 * h → length (jobText h n three own) ≡ jobBytes h
 unfolding jobText

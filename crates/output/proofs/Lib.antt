@@ -1,7 +1,12 @@
 pub mod Lengths
 pub mod GoesOn
+pub mod ReadLines
 pub mod JobsText
 pub mod Pieces
+pub mod Placed
+pub mod PieceSteps
 pub mod Characters
+pub mod Stored
+pub mod LinesInTurn
 pub mod OutputLines
 pub mod Examples

@@ -21,7 +21,7 @@ use Rattle.settlements.specs.Batch.{jobCount, jobWidth, answerWidth, Batch}
 use Rattle.settlements.proofs.BatchLaws.{drop-suc-mul, step-drop}
 use Rattle.output.specs.Limits.{mostJobs, openingBytes, jobBytes, hyphen}
 use Rattle.output.specs.Text.{character, vectorText, jobText, jobTexts}
-use Rattle.output.specs.Output.{openingText, batchFor, jobsText, outputOf}
+use Rattle.output.specs.Output.{openingText, batchFor, netText, jobsText, outputOf}
 use Rattle.output.specs.Printed.{printedLine, printedNumbers, printedR, printedT}
 use Rattle.output.proofs.Lengths.{length-opening, length-job}
 use Rattle.output.proofs.GoesOn.{batch-runs, goes-on}
@@ -68,7 +68,7 @@ linesRead jobs = take (mostJobs * lineWidth) jobs
 
 module _ (sheet : List ℕ) (N : Net) (reads : readSheet sheet ≡ accepted N) (c1 : placeC1 N ≡ none) where
   pub jobs-printed : (n : ℕ) (lines : List ℕ) → jobsText sheet n lines ≡ jobTexts (keyCount N) (jobCount lines) n (batchFor N lines .buffers .results) (batchFor N lines .buffers .answers)
-  unfolding jobsText
+  unfolding jobsText netText
   jobs-printed n lines = rw (reads, goes-on sheet N reads .1 c1)
 
   results-fit : (lines : List ℕ) → length (batchFor N lines .buffers .results) ≡ jobCount lines * jobWidth N

@@ -1,6 +1,6 @@
 -- The lines of jobs after other jobs are the lines of the first and then those of the others; so the pieces in turn are the whole output.
-use Prim.Native.Nat.{ℕ, zero, suc, _+_, _-_, _*_, _≤_}
-use native.Mathlib.Nat.{zero-mul, suc-mul, zero-add, add-zero, suc-add, add-suc, add-mul}
+use Prim.Native.Nat.{ℕ, zero, suc, _+_, _-_, _*_, _≤_, min}
+use native.Mathlib.Nat.{zero-mul, suc-mul, zero-add, add-zero, suc-add, add-suc, add-mul, min-eq-left, min-eq-right}
 use native.Mathlib.Omega.{arith}
 use mathlib.Core.Path.{_≡_, refl, sym, ap, _∙_}
 use mathlib.Core.List.{List, [], _++_, append-assoc, append-nil}
@@ -8,9 +8,10 @@ use lib.Dec.{ltb}
 use lib.ListN.{length, take, drop, length-take, length-drop, length-replicate, take-append-drop, replicate-append-replicate, drop-of-length-le}
 use lib.Seq.{take-append-le, drop-append-le, take-all, take-take, take-nil, drop-drop, length-take-le}
 use borrow.Author.Tests.{ltb-true, ltb-false}
-use Rattle.ternary.proofs.Tests.{by-test, cond-by}
+use Rattle.ternary.proofs.Tests.{by-test}
 use Rattle.net.specs.declared.Net.{Net}
 use Rattle.net.specs.Graph.{keyCount}
+use Rattle.net.proofs.Filling.{zeros}
 use Rattle.sheet.specs.Limits.{lineWidth}
 use Rattle.sheet.specs.Reading.{readSheet}
 use Rattle.settlements.specs.Batch.{jobCount, jobWidth, answerWidth, buffers}
@@ -21,9 +22,9 @@ use Rattle.settlements.proofs.RunLaws.{run-append, count-whole, count-append, p
 use Rattle.output.specs.Limits.{mostJobs, pieceJobs, pieceBytes}
 use Rattle.output.specs.Text.{jobText, jobTexts}
 use Rattle.output.specs.Output.{openingText, jobsText, outputOf}
-use Rattle.output.specs.Calls.{put, lesser, readLines, pieceOf}
+use Rattle.output.specs.Calls.{put, readLines, pieceOf}
 use Rattle.output.specs.Pieces.{pieceText, pieceTexts, pieceCount}
-use Rattle.output.proofs.JobsText.{zeros, jobsRun, run-results, run-answers, printed, by-prints}
+use Rattle.output.proofs.JobsText.{jobsRun, run-results, run-answers, printed, by-prints}
 
 -- ---- one text after another
 
@@ -102,10 +103,11 @@ jobs-split sheet n m lines =
 
 -- ---- pieces of any size
 
-take-lesser : (a b : ℕ) (l : List ℕ) → take (a * lineWidth) (take (b * lineWidth) l) ≡ take (lesser a b * lineWidth) l
-take-lesser a b l = cond-by (λ (k : ℕ). take (a * lineWidth) (take (b * lineWidth) l) ≡ take (k * lineWidth) l) (ltb a b)
-    (λ e. let less = ltb-true a b e in take-take (a * lineWidth) (b * lineWidth) l (omega arith))
-    (λ e. let more = ltb-false a b e in take-all (a * lineWidth) (take (b * lineWidth) l) (rw length-take (omega arith)))
+take-min : (a b : ℕ) (l : List ℕ) → take (a * lineWidth) (take (b * lineWidth) l) ≡ take (min a b * lineWidth) l
+take-min a b l =
+    by-test (ltb a b)
+    (λ e. let less = ltb-true a b e in rw (min-eq-left {n = a} {m = b} (omega arith)) (take-take (a * lineWidth) (b * lineWidth) l (omega arith)))
+    (λ e. let more = ltb-false a b e in rw (min-eq-right {n = b} {m = a} more) (take-all (a * lineWidth) (take (b * lineWidth) l) (rw length-take (omega arith))))
 
 module _ (sheet jobs : List ℕ) (size last : ℕ) where
   -- of the jobs from job n on, those up to the last
@@ -120,9 +122,9 @@ module _ (sheet jobs : List ℕ) (size last : ℕ) where
 
   -- a piece and the jobs after it
   piece-next : (n : ℕ) → 1 ≤ n
-      → jobsText sheet n (take (lesser size (suc last - n) * lineWidth) (drop ((n - 1) * lineWidth) jobs)) ++ jobsText sheet (n + size) (left (n + size)) ≡ jobsText sheet n (left n)
+      → jobsText sheet n (take (min size (suc last - n) * lineWidth) (drop ((n - 1) * lineWidth) jobs)) ++ jobsText sheet (n + size) (left (n + size)) ≡ jobsText sheet n (left n)
   piece-next n h =
-      rw (← take-lesser size (suc last - n) (drop ((n - 1) * lineWidth) jobs), ← after n h) (jobs-split sheet n size (left n))
+      rw (← take-min size (suc last - n) (drop ((n - 1) * lineWidth) jobs), ← after n h) (jobs-split sheet n size (left n))
 
 -- ---- the pieces of the program
 

@@ -1,5 +1,5 @@
 -- What each call of the report answers and leaves in its buffer.
-use Prim.Native.Nat.{ℕ, suc, _-_, _*_}
+use Prim.Native.Nat.{ℕ, suc, _-_, _*_, min}
 use mathlib.Core.Bool.{cond}
 use mathlib.Core.List.{List, _++_}
 use lib.Dec.{ltb}
@@ -26,12 +26,9 @@ put room text out = cond (ltb (length out) room) (report Short out) (report (Byt
 unfoldable pub openingOf : List ℕ → List ℕ → Report
 openingOf sheet out = put openingBytes (openingText sheet) out
 
-abbrev pub lesser : ℕ → ℕ → ℕ
-lesser a b = cond (ltb a b) a b
-
 -- of a piece that begins with job n, the lines that are read: no more than a piece has, and none past the last job
 unfoldable pub readLines : ℕ → List ℕ → List ℕ
-readLines n lines = take (lesser pieceJobs (suc mostJobs - n) * lineWidth) lines
+readLines n lines = take (min pieceJobs (suc mostJobs - n) * lineWidth) lines
 
 -- the lines of a piece's jobs
 unfoldable pub pieceOf : List ℕ → ℕ → List ℕ → List ℕ → Report

@@ -35,16 +35,17 @@ goesOn number = eqb number 0 || eqb number 32 || eqb number 33
 unfoldable pub batchFor : Net → List ℕ → Batch
 batchFor N lines = batchOf N lines (replicate (jobCount lines * jobWidth N) 0) (replicate (jobCount lines * answerWidth) 0)
 
--- the lines of the jobs of a sheet, numbered from n on; nothing for a sheet that the program ends with after the first line
+-- the lines of the jobs on a net, numbered from n on; nothing where its verdict ends the program
+unfoldable pub netText : Net → ℕ → List ℕ → List ℕ
+netText N n lines =
+    let batch = batchFor N lines in
+    cond (goesOn (verdictOf N .number)) (jobTexts (keyCount N) (jobCount lines) n (batch .buffers .results) (batch .buffers .answers)) []
+
+-- the same on the net of a sheet; nothing for a sheet that the reader refuses
 unfoldable pub jobsText : List ℕ → ℕ → List ℕ → List ℕ
 jobsText sheet n lines =
     let reading = readSheet sheet in
-    let batch = batchFor (reading .net) lines in
-    cond (eqb (reading .answer .number) 0)
-    (cond (goesOn (verdictOf (reading .net) .number))
-    (jobTexts (keyCount (reading .net)) (jobCount lines) n (batch .buffers .results) (batch .buffers .answers))
-    [])
-    []
+    cond (eqb (reading .answer .number) 0) (netText (reading .net) n lines) []
 
 -- the whole output: the first line, and a line for each job up to the last that is read
 unfoldable pub outputOf : List ℕ → List ℕ → List ℕ

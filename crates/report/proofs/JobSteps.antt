@@ -1,15 +1,15 @@
 -- The jobs of a piece: room for them, and their text by the batch's answer.
-use Prim.Native.Nat.{ℕ, zero, suc, _-_, _*_, _≤_}
+use Prim.Native.Nat.{ℕ, _-_, _*_, _≤_}
 use native.Mathlib.Omega.{arith}
 use native.Mathlib.Nat.{mul-le-mul}
-use mathlib.Core.Path.{_≡_, refl, sym, ap, _∙_}
-use mathlib.Core.List.{List, _∷_, _++_}
+use mathlib.Core.Path.{_≡_, sym, ap, _∙_}
+use mathlib.Core.List.{List, _++_}
 use mathlib.Core.Logic.{_≢_}
 use lib.ListN.{length, take, drop, length-replicate}
 use Rattle.ternary.proofs.Tests.{fails}
 use Rattle.net.specs.declared.Net.{Net}
 use Rattle.net.specs.Limits.{mostKeyNodes}
-use Rattle.net.proofs.Filling.{zeros}
+use Rattle.net.proofs.Filling.{zeros, zeros-part}
 use Rattle.sheet.specs.declared.Answer.{Answer}
 use Rattle.troubles.proofs.FitLaws.{valid-fit}
 use Rattle.verdict.specs.Verdict.{verdictOf}
@@ -17,22 +17,17 @@ use Rattle.settlements.specs.Batch.{answerWidth, Batch, batched, batchOf}
 use Rattle.output.specs.declared.Written.the-variants.{Bytes}
 use Rattle.output.specs.Limits.{pieceJobs, jobBytes, pieceBytes}
 use Rattle.output.specs.Text.{jobTexts}
-use Rattle.output.specs.Output.{goesOn, batchFor}
+use Rattle.output.specs.Output.{goesOn, batchFor, netText}
 use Rattle.output.specs.Calls.{report, put}
 use Rattle.output.proofs.Lengths.{length-jobs}
 use Rattle.output.proofs.GoesOn.{runs-iff, batch-iff}
-use Rattle.report.specs.Pieces.{netText, Ready}
-use Rattle.report.proofs.Placed.{put-whole, put-none}
+use Rattle.output.proofs.Placed.{put-whole, put-none}
+use Rattle.report.specs.Pieces.{Ready}
 
 -- ---- room
 
 pub piece-room : {count width : ℕ} (most : ℕ) → count ≤ pieceJobs → width ≤ most → count * width ≤ pieceJobs * most
 piece-room most few narrow = mul-le-mul few narrow
-
-zeros-part : (k n : ℕ) → k ≤ n → take k (zeros n) ≡ zeros k
-zeros-part zero n h = refl
-zeros-part (suc k) zero h = absurd (omega arith)
-zeros-part (suc k) (suc n) h = ap (λ (l : List ℕ). 0 ∷ l) (zeros-part k n (omega arith))
 
 -- a part of zeros, lent from byte 0 on, with as many bytes as its ends give
 pub zeros-lent : {k n : ℕ} {l : List ℕ} → k ≤ n → l ≡ zeros n → take (k - 0) l ≡ zeros k

@@ -15,7 +15,7 @@ use Rattle.output.specs.Limits.{openingBytes}
 use Rattle.output.specs.Output.{firstLine, openingText}
 use Rattle.output.specs.Calls.{report, openingOf}
 use Rattle.output.proofs.Lengths.{length-first}
-use Rattle.report.proofs.Placed.{put-short, put-whole}
+use Rattle.output.proofs.Placed.{put-short, put-whole}
 
 module _ (sheet out : List ℕ) where
   pub opening-short : length out < openingBytes → report Short out ≡ openingOf sheet out

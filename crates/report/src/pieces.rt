@@ -4,7 +4,7 @@ use net::Net;
 use output::Report;
 use settlements::Settling;
 use sheet::Sheet;
-ghost use Prim.Native.Nat.{suc, _-_, _*_, _≤_};
+ghost use Prim.Native.Nat.{suc, _-_, _*_, _≤_, min};
 ghost use mathlib.Core.Path.{_≡_};
 ghost use mathlib.Core.Bool.{true};
 ghost use lib.ListN.{length, replicate};
@@ -12,8 +12,9 @@ ghost use Rattle.sheet.specs.Limits.{lineWidth};
 ghost use Rattle.sheet.specs.Valid.{valid};
 ghost use Rattle.output.specs.declared.Written.the-variants.{Bytes};
 ghost use Rattle.output.specs.Limits.{mostJobs, pieceJobs, pieceBytes};
-ghost use Rattle.output.specs.Calls.{report, put, lesser, readLines};
-ghost use Rattle.report.specs.Pieces.{resultBytes, answerBytes, netText, Ready};
+ghost use Rattle.output.specs.Output.{netText};
+ghost use Rattle.output.specs.Calls.{report, put, readLines};
+ghost use Rattle.report.specs.Pieces.{resultBytes, answerBytes, Ready};
 
 // The most bytes of r and t, and of answers, that the jobs of a piece have.
 const RESULT_BYTES: usize = Report::PIECE_JOBS * (Settling::VECTORS * Net::MOST_KEY_NODES);
@@ -22,7 +23,7 @@ const ANSWER_BYTES: usize = Report::PIECE_JOBS * Settling::ANSWER_BYTES;
 
 // The most bytes that are read of a piece: no more than a piece has, and none past the last job.
 fn most_bytes(first: u32) -> usize
-    ensures { λ r. ⌜ r ≡ lesser pieceJobs (suc mostJobs - first) * lineWidth ⌝ }
+    ensures { λ r. ⌜ r ≡ min pieceJobs (suc mostJobs - first) * lineWidth ⌝ }
 {
     let number = first as usize;
     if Report::MOST_JOBS < number {

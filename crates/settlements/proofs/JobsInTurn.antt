@@ -1,6 +1,6 @@
 -- The jobs of a batch, one after the other.
-use Prim.Native.Nat.{ℕ, suc, _+_, _-_, _*_, _≤_}
-use native.Mathlib.Nat.{zero-add, suc-mul}
+use Prim.Native.Nat.{ℕ, _+_, _-_, _*_, _≤_}
+use native.Mathlib.Nat.{zero-add}
 use native.Mathlib.Omega.{arith}
 use mathlib.Core.Path.{_≡_, refl, sym, ap, _∙_}
 use mathlib.Core.List.{List, [], _∷_, _++_, append-assoc}
@@ -14,7 +14,7 @@ use Rattle.settlements.specs.declared.Settling.{Settling}
 use Rattle.settlements.specs.Settle.{Settlement, settlement}
 use Rattle.settlements.specs.Batch.{jobCount, jobWidth, answerWidth, jobSettlement, Buffers, buffers, runJobs}
 use Rattle.settlements.proofs.BatchLaws.{vectorsOf, job-length}
-use Rattle.settlements.proofs.Parts.{part-width, part-taken, part-dropped, part-length}
+use Rattle.settlements.proofs.Parts.{part-width, room-now, room-then, part-taken, part-dropped, part-length}
 use Rattle.settlements.proofs.PieceLaws.{jobsOf, no-jobs, Ends, jobs-at}
 
 -- the jobs before `from` are done, and the rest of them gives the rest of both buffers
@@ -38,27 +38,16 @@ start N lines results answers hr ha = record {
   same = refl;
 }
 
--- room for the job at hand, and for those after it
-room-now : {n m : ℕ} (w at size : ℕ) → n ≡ suc m → at + n * w ≤ size → at + w ≤ size
-room-now {n} {m} w at size e h =
-    let more : n * w ≡ m * w + w = ap (λ (k : ℕ). k * w) e ∙ suc-mul m w in
-    omega arith
-
-room-then : {n m : ℕ} (w at size : ℕ) → n ≡ suc m → at + n * w ≤ size → (at + w) + m * w ≤ size
-room-then {n} {m} w at size e h =
-    let more : n * w ≡ m * w + w = ap (λ (k : ℕ). k * w) e ∙ suc-mul m w in
-    omega arith
-
 -- one job: `to` is where its piece ends
 module _ {N : Net} {lines results₀ answers₀ results answers : List ℕ} {from at place to : ℕ} (v : Progress N lines results₀ answers₀ results answers from at place) (ends : Ends lines from to) where
   fits : at + jobWidth N ≤ length results
-  fits = room-now (jobWidth N) at (length results) (ends .counted) (v .results-room)
+  fits = room-now (jobWidth N) at (ends .counted) (v .results-room)
 
   own-size : length (take (jobWidth N) (drop at results)) ≡ jobWidth N
   own-size = length-take-le (jobWidth N) (drop at results) (simp length-drop (omega (arith, fits)))
 
   pub answers-now : place + answerWidth ≤ length answers
-  answers-now = room-now answerWidth place (length answers) (ends .counted) (v .answers-room)
+  answers-now = room-now answerWidth place (ends .counted) (v .answers-room)
 
   pub bytes-length : length (take (place + answerWidth - place) (drop place answers)) ≡ answerWidth
   bytes-length = rw (part-width place answerWidth) (length-take-le answerWidth (drop place answers) (simp length-drop (omega (arith, answers-now))))
@@ -84,8 +73,8 @@ module _ {N : Net} {lines results₀ answers₀ results answers : List ℕ} {fro
       within = ends .within;
       results-length = part-length results own at (jobWidth N) fits own-kept ∙ v .results-length;
       answers-length = part-length answers bytes place answerWidth answers-now (ap length f) ∙ v .answers-length;
-      results-room = rw (part-length results own at (jobWidth N) fits own-kept) (room-then (jobWidth N) at (length results) (ends .counted) (v .results-room));
-      answers-room = rw (part-length answers bytes place answerWidth answers-now (ap length f)) (room-then answerWidth place (length answers) (ends .counted) (v .answers-room));
+      results-room = rw (part-length results own at (jobWidth N) fits own-kept) (room-then (jobWidth N) at (ends .counted) (v .results-room));
+      answers-room = rw (part-length answers bytes place answerWidth answers-now (ap length f)) (room-then answerWidth place (ends .counted) (v .answers-room));
       same =
           rw (
             part-taken results own at (jobWidth N) fits own-kept,

@@ -3,6 +3,7 @@ pub mod SettleLaws
 pub mod BatchLaws
 pub mod NumberLaws
 pub mod Parts
+pub mod FrontLaws
 pub mod WritingLaws
 pub mod PassedLaws
 pub mod SettleSteps

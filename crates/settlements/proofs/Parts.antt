@@ -1,6 +1,6 @@
--- Parts of lists: what follows a part that is all of its list, and a list with a part in its middle replaced.
-use Prim.Native.Nat.{ℕ, zero, suc, _+_, _-_, _≤_}
-use native.Mathlib.Nat.{sub-zero, zero-sub, suc-sub-suc}
+-- Parts of lists: their widths and the room for them, what follows a part that is all of its list, and a list with a part in its middle replaced.
+use Prim.Native.Nat.{ℕ, zero, suc, _+_, _-_, _*_, _≤_}
+use native.Mathlib.Nat.{sub-zero, zero-sub, suc-sub-suc, suc-mul}
 use native.Mathlib.Omega.{arith}
 use mathlib.Core.Path.{_≡_, sym, ap, _∙_}
 use mathlib.Core.List.{List, [], _∷_, _++_, append-assoc, append-nil}
@@ -11,6 +11,21 @@ use borrow.Rule.Slice.PartMut.{putMid}
 -- the width of a part, as a part's ends give it
 pub part-width : (at w : ℕ) → at + w - at ≡ w
 part-width at w = omega arith
+
+-- n parts of one width, of which m follow the part at hand
+module _ {n m : ℕ} (w at : ℕ) (e : n ≡ suc m) where
+  pub parts-left : (at + w) + m * w ≡ at + n * w
+  parts-left =
+      let more : n * w ≡ m * w + w = ap (λ (k : ℕ). k * w) e ∙ suc-mul m w in
+      omega arith
+
+  -- room for the part at hand, and for those that follow
+  module _ {size : ℕ} (room : at + n * w ≤ size) where
+    pub room-now : at + w ≤ size
+    room-now = omega (arith, parts-left)
+
+    pub room-then : (at + w) + m * w ≤ size
+    room-then = omega (arith, parts-left)
 
 pub nothing-after : (x l : List ℕ) (n : ℕ) → length l ≤ n → x ≡ x ++ drop n l
 nothing-after x l n h = rw (drop-of-length-le l {i = n} h, append-nil)

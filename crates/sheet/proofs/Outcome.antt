@@ -113,5 +113,6 @@ accepted-at-zero b = go (outcome b)
     go (accept N) e = refl
     go (refuse l) e = absurd (omega (arith, listed-number l))
 
-pub valid-at-zero : (b : List ℕ) → (readSheet b) .answer .number ≡ 0 → valid ((readSheet b) .net) ≡ true
-valid-at-zero b e = read-valid b ((readSheet b) .net) (accepted-at-zero b e)
+-- what the reader answers with number 0 is a valid net
+pub valid-at-zero : (b : List ℕ) (r : Reading) → r ≡ readSheet b → r .answer .number ≡ 0 → valid (r .net) ≡ true
+valid-at-zero b r read e = rw read (read-valid b ((readSheet b) .net) (accepted-at-zero b (rw read at e)))

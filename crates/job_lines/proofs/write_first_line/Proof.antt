@@ -5,9 +5,9 @@ use mathlib.Core.List.{append-assoc}
 use lib.Seq.{length-take-le}
 use borrow.Author.Needs.{needs}
 use Rattle.sheet.specs.Limits.{lineEnd}
+use Rattle.settlements.proofs.FrontLaws.{first-part, next-byte, all-written}
 use Rattle.output.specs.Output.{firstLine}
-use Rattle.job_lines.proofs.FrontLaws.{first-part, next-byte, all-written}
-use Rattle.job_lines.proofs.TextLaws.{length-four}
+use Rattle.output.proofs.Lengths.{length-four}
 use Rattle.job_lines.proofs.write_first_line.Statement.{statement}
 use Rattle.job_lines.proofs.write_first_line.Tie as tie
 

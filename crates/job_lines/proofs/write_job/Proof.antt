@@ -4,9 +4,9 @@ use mathlib.Core.Path.{refl, sym, _∙_}
 use mathlib.Core.List.{append-assoc}
 use lib.Seq.{length-take-le}
 use borrow.Author.Needs.{needs}
+use Rattle.settlements.proofs.FrontLaws.{first-part, last-part, all-written}
 use Rattle.output.specs.Text.{jobText}
-use Rattle.job_lines.proofs.FrontLaws.{first-part, last-part, all-written}
-use Rattle.job_lines.proofs.TextLaws.{length-four, length-both}
+use Rattle.output.proofs.Lengths.{length-four, length-both}
 use Rattle.job_lines.proofs.write_job.Statement.{statement}
 use Rattle.job_lines.proofs.write_job.Tie as tie
 

@@ -4,7 +4,7 @@ use native.Mathlib.Omega.{arith}
 use lib.ListN.{length}
 use borrow.Author.Needs.{needs}
 use Rattle.settlements.specs.Batch.{answerWidth}
-use Rattle.job_lines.proofs.JobsInTurn.{Progress, start, results-now, answers-now, line-now, own-length, three-length, line-length, step, finish}
+use Rattle.output.proofs.LinesInTurn.{Progress, start, results-now, answers-now, line-now, own-length, three-length, line-length, step, finish}
 use Rattle.job_lines.proofs.write_jobs.Statement.{statement}
 use Rattle.job_lines.proofs.write_jobs.Tie as tie
 

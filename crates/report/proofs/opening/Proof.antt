@@ -2,8 +2,8 @@
 -- reader has refused and e where it has not, v after the verdict, k after the key nodes are counted. Assumes nothing.
 use native.Mathlib.Omega.{arith}
 use borrow.Author.Needs.{needs}
+use Rattle.sheet.proofs.Outcome.{valid-at-zero}
 use Rattle.troubles.proofs.FitLaws.{valid-fit}
-use Rattle.report.proofs.Accepted.{net-valid}
 use Rattle.report.proofs.OpeningSteps.{opening-short, opening-refused, opening-judged}
 use Rattle.report.proofs.opening.Statement.{statement}
 use Rattle.report.proofs.opening.Tie as tie
@@ -44,7 +44,7 @@ verdict-requires c κs = search needs
 key-count-requires : tie.Need-key-count-requires
 key-count-requires c κs =
     let e = c .before .before in
-    valid-fit _ (net-valid _ _ (e .before .before .before .read .ensures) (e .if2 .left)) .readable
+    valid-fit _ (valid-at-zero _ _ (e .before .before .before .read .ensures) (e .if2 .left)) .readable
 
 sub-write-first-line-2 : tie.Need-sub-write-first-line-2
 sub-write-first-line-2 c = search needs

@@ -2,9 +2,9 @@
 -- l the one after the lines are taken, w after the text is written. Assumes nothing.
 use native.Mathlib.Omega.{arith}
 use borrow.Author.Needs.{needs}
-use Rattle.report.proofs.Accepted.{net-valid}
-use Rattle.report.proofs.ReadLines.{read-few}
-use Rattle.report.proofs.PieceSteps.{piece-short, piece-refused, piece-read}
+use Rattle.sheet.proofs.Outcome.{valid-at-zero}
+use Rattle.output.proofs.ReadLines.{read-few}
+use Rattle.output.proofs.PieceSteps.{piece-short, piece-refused, piece-read}
 use Rattle.report.proofs.piece.Statement.{statement}
 use Rattle.report.proofs.piece.Tie as tie
 
@@ -24,7 +24,7 @@ write-requires : tie.Need-write-requires
 write-requires c κs =
     let l = c .before in
     let e = l .before .before in
-    (net-valid _ _ (e .before .before .before .read .ensures) (e .if2 .left), rw (l .read-lines .ensures) (read-few _ _), omega arith)
+    (valid-at-zero _ _ (e .before .before .before .read .ensures) (e .if2 .left), rw (l .read-lines .ensures) (read-few _ _), omega arith)
 
 same-length : tie.Need-same-length
 same-length c = search needs

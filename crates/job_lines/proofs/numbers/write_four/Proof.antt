@@ -6,7 +6,7 @@ use mathlib.Core.List.{append-assoc}
 use lib.Seq.{length-take-le}
 use borrow.Author.Needs.{needs}
 use Rattle.sheet.specs.Limits.{fieldWidth}
-use Rattle.job_lines.proofs.FrontLaws.{first-part, next-part, last-part, all-written}
+use Rattle.settlements.proofs.FrontLaws.{first-part, next-part, last-part, all-written}
 use Rattle.output.proofs.Lengths.{length-number}
 use Rattle.job_lines.proofs.numbers.write_four.Statement.{statement}
 use Rattle.job_lines.proofs.numbers.write_four.Tie as tie

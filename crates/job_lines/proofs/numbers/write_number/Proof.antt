@@ -1,6 +1,6 @@
 -- `write_number` meets its contract.
 use borrow.Author.Needs.{needs}
-use Rattle.job_lines.proofs.TextLaws.{number-stored}
+use Rattle.output.proofs.Stored.{number-stored}
 use Rattle.job_lines.proofs.numbers.write_number.Statement.{statement}
 use Rattle.job_lines.proofs.numbers.write_number.Tie as tie
 

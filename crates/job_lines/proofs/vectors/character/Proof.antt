@@ -1,6 +1,6 @@
 -- `character` meets its contract.
 use borrow.Author.Needs.{needs}
-use Rattle.job_lines.proofs.TextLaws.{digit-character, other-character}
+use Rattle.output.proofs.Characters.{digit-character, other-character}
 use Rattle.job_lines.proofs.vectors.character.Statement.{statement}
 use Rattle.job_lines.proofs.vectors.character.Tie as tie
 

@@ -3,8 +3,8 @@ use native.Mathlib.Omega.{arith}
 use mathlib.Core.Path.{sym, ap, _∙_}
 use lib.ListN.{length}
 use borrow.Author.Needs.{needs}
-use Rattle.job_lines.proofs.TextLaws.{length-both}
-use Rattle.job_lines.proofs.BothVectors.{Lent, with-blank, with-first, with-both-blanks, with-second, both-written}
+use Rattle.output.proofs.Lengths.{length-both}
+use Rattle.output.proofs.Stored.{Lent, with-blank, with-first, with-both-blanks, with-second, both-written}
 use Rattle.job_lines.proofs.vectors.write_both.Statement.{statement}
 use Rattle.job_lines.proofs.vectors.write_both.Tie as tie
 

@@ -9,7 +9,8 @@ use borrow.Author.Needs.{needs}
 use Rattle.settlements.proofs.WritingLaws.{byte-stored, length-stored}
 use Rattle.output.specs.Text.{vectorText}
 use Rattle.output.proofs.Lengths.{length-vector}
-use Rattle.job_lines.proofs.TextLaws.{vector-entry, vector-stored}
+use Rattle.output.proofs.Characters.{vector-entry}
+use Rattle.output.proofs.Stored.{vector-stored}
 use Rattle.job_lines.proofs.vectors.write_vector.Statement.{statement}
 use Rattle.job_lines.proofs.vectors.write_vector.Tie as tie
 

@@ -1,7 +1,7 @@
 -- `report::pieces::most_bytes` meets its contract: by what is left up to the last job. Assumes nothing.
 use native.Mathlib.Omega.{arith}
 use borrow.Author.Needs.{needs}
-use Rattle.report.proofs.ReadLines.{none-left, piece-left, few-left}
+use Rattle.output.proofs.ReadLines.{none-left, piece-left, few-left}
 use Rattle.report.proofs.pieces.most_bytes.Statement.{statement}
 use Rattle.report.proofs.pieces.most_bytes.Tie as tie
 

@@ -1,6 +1,6 @@
 -- `report::pieces::read_lines` meets its contract: all lines, or the first of them. Assumes nothing.
 use borrow.Author.Needs.{needs}
-use Rattle.report.proofs.ReadLines.{read-all, read-part}
+use Rattle.output.proofs.ReadLines.{read-all, read-part}
 use Rattle.report.proofs.pieces.read_lines.Statement.{statement}
 use Rattle.report.proofs.pieces.read_lines.Tie as tie
 

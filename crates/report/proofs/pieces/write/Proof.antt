@@ -9,8 +9,8 @@ use Rattle.net.specs.Limits.{mostKeyNodes}
 use Rattle.troubles.proofs.FitLaws.{valid-fit}
 use Rattle.settlements.specs.Batch.{answerWidth}
 use Rattle.output.specs.Limits.{pieceJobs}
+use Rattle.output.proofs.ReadLines.{jobs-few}
 use Rattle.report.specs.Pieces.{resultBytes, answerBytes}
-use Rattle.report.proofs.ReadLines.{jobs-few}
 use Rattle.report.proofs.JobSteps.{piece-room, zeros-lent}
 use Rattle.report.proofs.pieces.write.Statement.{statement}
 use Rattle.report.proofs.pieces.write.Tie as tie

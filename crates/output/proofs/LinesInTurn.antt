@@ -1,6 +1,6 @@
 -- The lines of the jobs, one after the other.
 use Prim.Native.Nat.{ℕ, suc, _+_, _-_, _*_, _≤_, _<_}
-use native.Mathlib.Nat.{zero-add, add-zero, sub-zero, suc-mul, zero-mul}
+use native.Mathlib.Nat.{zero-add, add-zero, sub-zero, zero-mul}
 use native.Mathlib.Omega.{arith}
 use mathlib.Core.Path.{_≡_, refl, sym, ap, _∙_}
 use mathlib.Core.List.{List, _++_, append-assoc, append-nil}
@@ -8,10 +8,10 @@ use lib.ListN.{length, take, drop, length-drop, take-append-drop}
 use lib.Seq.{length-take-le, drop-drop}
 use borrow.Rule.Slice.PartMut.{putMid}
 use Rattle.settlements.specs.Batch.{answerWidth}
-use Rattle.settlements.proofs.Parts.{part-width, part-taken, part-dropped, part-length}
+use Rattle.settlements.proofs.Parts.{part-width, parts-left, room-now, room-then, part-taken, part-dropped, part-length}
 use Rattle.output.specs.Limits.{jobBytes}
 use Rattle.output.specs.Text.{jobText, jobTexts}
 use Rattle.output.proofs.Lengths.{length-job}
 
 -- the lines of the first i jobs stand before `at`, those of the others are to follow, and from `at` on the buffer is as it was
 pub record Progress (h count first : ℕ) (results answers out₀ : List ℕ) (i at from place : ℕ) (out : List ℕ) : Type 0 where
@@ -40,14 +40,11 @@ module _ {h count first i at from place : ℕ} {results answers out₀ out : Lis
   left : count - i ≡ suc (count - (i + 1))
   left = omega arith
 
-  more : (w : ℕ) → (count - i) * w ≡ (count - (i + 1)) * w + w
-  more w = ap (λ (k : ℕ). k * w) left ∙ suc-mul (count - (i + 1)) w
-
   pub results-now : from + 2 * h ≤ length results
-  results-now = omega (arith, v .results-room, more (2 * h))
+  results-now = room-now (2 * h) from left (v .results-room)
 
   pub answers-now : place + answerWidth ≤ length answers
-  answers-now = omega (arith, v .answers-room, more answerWidth)
+  answers-now = room-now answerWidth place left (v .answers-room)
 
   pub own-length : length (take (from + 2 * h - from) (drop from results)) ≡ 2 * h
   own-length = rw (part-width from (2 * h)) (length-take-le (2 * h) (drop from results) (simp length-drop (omega (arith, results-now))))
@@ -57,7 +54,7 @@ module _ {h count first i at from place : ℕ} {results answers out₀ out : Lis
 
   module _ (enough : count * jobBytes h ≤ length out₀) where
     fits : at + jobBytes h ≤ length out
-    fits = omega (arith, v .room, v .kept, enough, more (jobBytes h))
+    fits = room-now (jobBytes h) at left (omega (arith, v .room, v .kept, enough))
 
     -- the line of the job at hand
     abbrev line : List ℕ
@@ -78,9 +75,9 @@ module _ {h count first i at from place : ℕ} {results answers out₀ out : Lis
         record {
           within = omega arith;
           kept = part-length out part at (jobBytes h) fits size ∙ v .kept;
-          room = omega (arith, v .room, more (jobBytes h));
-          results-room = omega (arith, v .results-room, more (2 * h));
-          answers-room = omega (arith, v .answers-room, more answerWidth);
+          room = parts-left (jobBytes h) at left ∙ v .room;
+          results-room = room-then (2 * h) from left (v .results-room);
+          answers-room = room-then answerWidth place left (v .answers-room);
           same = rw (part-taken out part at (jobBytes h) fits size, append-assoc (take at out) part) (rw (next e) at (v .same));
           rest = part-dropped out part at (jobBytes h) fits size ∙ ap (drop (jobBytes h)) (v .rest) ∙ drop-drop (jobBytes h) at out₀;
         }

@@ -7,12 +7,11 @@ use lib.ListN.{length}
 use borrow.Author.Tests.{eq-eqb, ne-eqb}
 use Rattle.sheet.specs.declared.Reading.{Reading}
 use Rattle.sheet.specs.Reading.{readSheet}
 use Rattle.output.specs.declared.Written.the-variants.{Short, Bytes}
 use Rattle.output.specs.Limits.{pieceBytes}
-use Rattle.output.specs.Output.{jobsText}
+use Rattle.output.specs.Output.{netText, jobsText}
 use Rattle.output.specs.Calls.{Report, report, put, readLines, pieceOf}
-use Rattle.report.specs.Pieces.{netText}
-use Rattle.report.proofs.Placed.{put-short, put-none}
+use Rattle.output.proofs.Placed.{put-short, put-none}
 
 module _ (sheet : List ℕ) (n : ℕ) (lines out : List ℕ) where
   pub piece-short : length out < pieceBytes → report Short out ≡ pieceOf sheet n lines out
@@ -26,5 +25,5 @@ module _ (sheet : List ℕ) (n : ℕ) (lines out : List ℕ) where
 
     pub piece-read : r .answer .number ≡ 0 → {part : List ℕ} → part ≡ readLines n lines → {w : Report} → w ≡ put pieceBytes (netText (r .net) n part) out
         → w ≡ pieceOf sheet n lines out
-    unfolding pieceOf jobsText netText
+    unfolding pieceOf jobsText
     piece-read e readable same = same ∙ rw (readable, ← read, eq-eqb (r .answer .number) 0 e)

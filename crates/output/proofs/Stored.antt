@@ -1,15 +1,30 @@
--- A job's two vectors, each after a blank, and the end of its line: what the buffer holds, store by store.
-use Prim.Native.Nat.{ℕ, _+_, _-_, _*_}
+-- What is stored, store by store: a number's four bytes, a vector's characters, and a job's two vectors, each after a blank, with the end of its line.
+use Prim.Native.Nat.{ℕ, _+_, _-_, _*_, _≤_}
 use native.Mathlib.Omega.{arith}
 use mathlib.Core.Path.{_≡_, ap, _∙_}
-use mathlib.Core.List.{List, [], _∷_, _++_, append-assoc}
-use lib.ListN.{length, take, drop, set, length-drop}
-use lib.Seq.{take-all}
+use mathlib.Core.List.{List, [], _∷_, _++_, append-assoc, append-nil}
+use lib.ListN.{length, take, drop, getD, set, length-drop, drop-of-length-le}
+use lib.Seq.{take-all, sets-eq}
 use borrow.Rule.Slice.PartMut.{putMid}
-use Rattle.sheet.specs.Limits.{blank, lineEnd}
+use Rattle.sheet.specs.Limits.{fieldWidth, blank, lineEnd}
+use Rattle.sheet.specs.Field.{writeField}
+use Rattle.sheet.specs.Line.{writeNumber}
+use Rattle.settlements.proofs.FrontLaws.{Front, nothing, next-byte, next-part, lent-length, all-written}
 use Rattle.output.specs.Text.{vectorText}
-use Rattle.job_lines.proofs.FrontLaws.{Front, nothing, next-byte, next-part, lent-length, all-written}
-use Rattle.output.proofs.Lengths.{length-vector}
+use Rattle.output.proofs.Lengths.{length-number, length-vector}
+
+pub number-stored : (out text : List ℕ) (n : ℕ) → length out ≡ fieldWidth → text ≡ writeNumber n
+    → set (set (set (set out 0 (getD text 0 0)) 1 (getD text 1 0)) 2 (getD text 2 0)) 3 (getD text 3 0) ≡ writeNumber n
+unfolding writeField
+number-stored out text n size e = rw e (sets-eq (writeNumber n) out 0 (omega (arith, length-number n)) ∙ rw (drop-of-length-le out {i = fieldWidth} (omega arith)))
+
+-- all characters of a vector
+pub vector-stored : (h number : ℕ) (vector : List ℕ) → h ≤ length vector → (out : List ℕ) → length out ≡ h
+    → take h (vectorText h number vector) ++ drop h out ≡ vectorText h number vector
+vector-stored h number vector room out e =
+    rw (take-all h (vectorText h number vector) (omega (arith, length-vector h number vector room)), drop-of-length-le out {i = h} (omega arith), append-nil)
+
+-- ---- both vectors
 
 -- the buffer has room for the vectors of a job of this number, which are its own bytes
 pub record Lent (h number : ℕ) (own out : List ℕ) : Type 0 where

@@ -1,4 +1,0 @@
-pub mod FrontLaws
-pub mod TextLaws
-pub mod BothVectors
-pub mod JobsInTurn
