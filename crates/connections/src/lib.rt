@@ -3,6 +3,7 @@ use net::Kind;
 use net::Net;
 use net::Symbol;
 ghost use mathlib.Core.Path.{_≡_};
+ghost use Prim.Native.Nat.{_<_};
 ghost use lib.Dec.{eqb};
 ghost use Rattle.ternary.specs.Bits.{digit};
 ghost use Rattle.net.specs.Symbols.{decode};
@@ -51,18 +52,28 @@ fn driven<'a>(
     marks
 }
 
+// The edge that comes as number n, where the edges are taken in their order or, if `back`, against it.
+fn turned(back: bool, count: usize, n: usize) -> usize
+    requires { ⌜ n < count ⌝ }
+    ensures { λ r. ⌜ r ≡ spec.turned back count n ⌝ }
+{
+    if back { count - 1 - n } else { n }
+}
+
 // Each edge between storage vertices that is on carries the mark of either end to the other, one edge after the other.
 fn sweep<'a, 'b>(
     marks: &'a mut [u8; Net::VERTEX_LANES],
     net: Net,
     storage: &'b [u8; Net::VERTEX_PLACES],
     on: &'b [u8; Net::EDGE_LANES],
+    back: bool,
 )
     requires { ⌜ Readable net × (now storage ≡ storageFlags net) ⌝ }
-    ensures { λ r. ⌜ now (marks .exit) ≡ spec.sweep net (now (on .entry)) (net .«edge_count») (now (marks .entry)) ⌝ }
+    ensures { λ r. ⌜ now (marks .exit) ≡ spec.sweep net (now (on .entry)) back (net .«edge_count») (now (marks .entry)) ⌝ }
 {
     let count = net.edge_count as usize;
-    for i in 0..count {
+    for n in 0..count {
+        let i = turned(back, count, n);
         let edge = net.edges[i];
         let u = edge.end1 as usize;
         let v = edge.end2 as usize;
@@ -112,8 +123,10 @@ pub fn connected_lanes<'a>(
 {
     let on = conditions::usable_lanes(net, storage, places, columns, kind);
     let mut marks = driven(net, storage, inputs, places, columns, &on, value);
+    let mut back = false;
     while !is_closed(&marks, net, storage, &on) {
-        sweep(&mut marks, net, storage, &on);
+        sweep(&mut marks, net, storage, &on, back);
+        back = !back;
     }
     marks
 }

@@ -84,11 +84,11 @@ module _ (N : Net) (readable : Readable N) (k : Kind) (b : ℕ) where
       let s2 : isStorage N ((edgeAt N i) .end2) ≡ true = and-right (isStorage N ((edgeAt N i) .end1)) _ t in
       marks-raise i _ _ h (inl (refl, refl)) s2 s1 (marks-raise i _ _ h (inr (refl, refl)) s1 s2 m)
 
-  pub marks-sweep : {r : List ℕ} → Marks N k b r → Marks N k b (sweep N on (N .«edge_count») r)
-  marks-sweep {r} m = sweep-keeps N on (Marks N k b) (N .«edge_count») marks-carry (N .«edge_count») (omega arith) r m
+  pub marks-sweep : (back : Bool) {r : List ℕ} → Marks N k b r → Marks N k b (sweep N on back (N .«edge_count») r)
+  marks-sweep back {r} m = sweep-keeps N on back (Marks N k b) marks-carry (N .«edge_count») (omega arith) r m
 
-  pub sweep-falls : {r : List ℕ} → Marks N k b r → isClosed N on r ≡ false → unset (sweep N on (N .«edge_count») r) < unset r
-  sweep-falls {r} m e = unset-falls N on r readable (m .size) (m .binary) e
+  pub sweep-falls : (back : Bool) {r : List ℕ} → Marks N k b r → isClosed N on r ≡ false → unset (sweep N on back (N .«edge_count») r) < unset r
+  sweep-falls back {r} m e = unset-falls N on back r readable (m .size) (m .binary) e
 
   -- ---- no mark left to carry
 

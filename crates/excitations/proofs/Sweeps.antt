@@ -1,4 +1,5 @@
--- Sweeps: no mark is taken away, an edge that is on levels its ends, and so the places without a mark get fewer until no edge has a mark to carry.
+-- Sweeps, in either order of the edges: no mark is taken away, an edge that is on levels its ends, and so the places without a mark get fewer until no
+-- edge has a mark to carry.
 use Prim.Native.Nat.{ℕ, zero, suc, _*_, _+_, _<_, _≤_}
 use mathlib.Core.Path.{_≡_, refl, sym, ap, subst, _∙_}
 use mathlib.Core.Bool.{Bool, true, false, not, _&&_, _||_}
@@ -19,11 +20,24 @@ use Rattle.net.specs.Tables.{Readable}
 use Rattle.lanes.specs.Lanes.{assignments, lane, raised, raiseRow, level}
 use Rattle.lanes.proofs.GridLaws.{cell-inside, every-place}
 use Rattle.lanes.proofs.LaneLaws.{raised-up, length-raiseRow, raiseRow-same, raiseRow-other, level-found}
-use Rattle.excitations.specs.Sweeps.{sweep, isClosed}
+use Rattle.excitations.specs.Sweeps.{turned, sweep, isClosed}
 
 -- a row for each number of a vertex
 abbrev pub Sized : List ℕ → Type 0
 Sized r = length r ≡ suc mostVertices * assignments
+
+-- ---- the order of the edges
+
+pub turned-below : (back : Bool) (c n : ℕ) → n < c → turned back c n < c
+unfolding turned
+turned-below true c n h = omega arith
+turned-below false c n h = h
+
+-- every edge has its turn
+turned-back : (back : Bool) (c i : ℕ) → i < c → turned back c (turned back c i) ≡ i
+unfolding turned
+turned-back true c i h = omega arith
+turned-back false c i h = refl
 
 -- ---- one row raised
 
@@ -56,19 +70,8 @@ module _ (N : Net) (on : List ℕ) where
   abbrev pub carry : ℕ → List ℕ → List ℕ
   carry i r = let e = edgeAt N i in raiseRow on i (e .end2) (e .end1) (raiseRow on i (e .end1) (e .end2) r)
 
-  -- what each edge between storage vertices keeps, a sweep keeps
-  pub sweep-keeps : (Q : List ℕ → Type 0) (m : ℕ) → ((i : ℕ) → i < m → inner N (edgeAt N i) ≡ true → (s : List ℕ) → Q s → Q (carry i s)) → (n : ℕ) → n ≤ m → (r : List ℕ) → Q r → Q (sweep N on n r)
-  unfolding sweep
-  sweep-keeps Q m f zero l r q = q
-  sweep-keeps Q m f (suc n) l r q =
-      let ih : Q (sweep N on n r) = sweep-keeps Q m f n (omega arith) r q in
-      cond-by Q (inner N (edgeAt N n)) (λ t. f n (omega arith) t (sweep N on n r) ih) (λ _. ih)
-
   carry-sized : (i : ℕ) (r : List ℕ) → Sized r → Sized (carry i r)
   carry-sized i r s = length-raiseRow on i _ _ _ ∙ length-raiseRow on i _ _ r ∙ s
-
-  pub sweep-sized : (n : ℕ) (r : List ℕ) → Sized r → Sized (sweep N on n r)
-  sweep-sized n r s = sweep-keeps Sized n (λ i _ _ t q. carry-sized i t q) n (omega arith) r s
 
   module _ (readable : Readable N) (w : ℕ) (l : w < assignments) where
     carry-keeps : (i : ℕ) → i < N .«edge_count» → (r : List ℕ) → Sized r → (u : ℕ) → lane r u w ≡ 1 → lane (carry i r) u w ≡ 1
@@ -88,35 +91,66 @@ module _ (N : Net) (on : List ℕ) where
           raise-keeps on i v u t w st (readable .first-end i h) l v e,
         )
 
-    -- ---- all edges in turn
+  -- ---- all edges in turn
 
-    pub sweep-marked : (n : ℕ) → n ≤ N .«edge_count» → (r : List ℕ) → Sized r → (u : ℕ) → lane r u w ≡ 1 → lane (sweep N on n r) u w ≡ 1
-    sweep-marked n h r s u e =
-        sweep-keeps (λ (t : List ℕ). Sized t × (lane t u w ≡ 1)) (N .«edge_count») (λ i l _ t q. (carry-sized i t (q .0), carry-keeps i l t (q .0) u (q .1))) n h r (s, e) .1
-
-    -- the ends of an edge that is on are both marked if one was
-    sweep-levels : (n : ℕ) → n ≤ N .«edge_count» → (r : List ℕ) → Sized r → (i : ℕ) → i < n → inner N (edgeAt N i) ≡ true → lane on i w ≡ 1
-        → (lane r ((edgeAt N i) .end1) w ≡ 1) ⊎ (lane r ((edgeAt N i) .end2) w ≡ 1)
-        → (lane (sweep N on n r) ((edgeAt N i) .end1) w ≡ 1) × (lane (sweep N on n r) ((edgeAt N i) .end2) w ≡ 1)
+  module _ (back : Bool) where
+    -- what each edge between storage vertices keeps, a sweep keeps
+    pub sweep-keeps : (Q : List ℕ → Type 0) → ((i : ℕ) → i < N .«edge_count» → inner N (edgeAt N i) ≡ true → (s : List ℕ) → Q s → Q (carry i s)) → (n : ℕ) → n ≤ N .«edge_count»
+        → (r : List ℕ) → Q r → Q (sweep N on back n r)
     unfolding sweep
-    sweep-levels zero h r s i k t o c = absurd (omega arith)
-    sweep-levels (suc n) h r s i k t o c = go (λ j. sweep-levels n (omega arith) r s i j t o c) (below-cases k)
-      where
-        Level : List ℕ → Type 0
-        Level q = (lane q ((edgeAt N i) .end1) w ≡ 1) × (lane q ((edgeAt N i) .end2) w ≡ 1)
+    sweep-keeps Q f zero l r q = q
+    sweep-keeps Q f (suc n) l r q =
+        let i : ℕ = turned back (N .«edge_count») n in
+        let ih : Q (sweep N on back n r) = sweep-keeps Q f n (omega arith) r q in
+        cond-by Q (inner N (edgeAt N i)) (λ t. f i (turned-below back _ n (omega arith)) t (sweep N on back n r) ih) (λ _. ih)
 
-        sized : Sized (sweep N on n r)
-        sized = sweep-sized n r s
+    pub sweep-sized : (n : ℕ) → n ≤ N .«edge_count» → (r : List ℕ) → Sized r → Sized (sweep N on back n r)
+    sweep-sized n h r s = sweep-keeps Sized (λ i _ _ t q. carry-sized i t q) n h r s
 
-        go : (i < n → Level (sweep N on n r)) → (i < n) ⊎ (i ≡ n) → Level (sweep N on (suc n) r)
-        go f (inl j) =
-            let q : Level (sweep N on n r) = f j in
-            cond-by Level (inner N (edgeAt N n)) (λ _. (carry-keeps n (omega arith) _ sized _ (q .0), carry-keeps n (omega arith) _ sized _ (q .1))) (λ _. q)
-        go f (inr j) =
-            cond-by Level (inner N (edgeAt N n))
-            (λ _. subst (λ (m : ℕ). Level (carry m (sweep N on n r))) j (carry-levels i (omega arith) (sweep N on n r) sized o
-            (⊎-elim (λ a. inl (sweep-marked n (omega arith) r s _ a)) (λ a. inr (sweep-marked n (omega arith) r s _ a)) c)))
-            (λ u. absurd (not-both (inner N (edgeAt N i)) t (rw j u)))
+    module _ (readable : Readable N) (w : ℕ) (l : w < assignments) where
+      pub sweep-marked : (n : ℕ) → n ≤ N .«edge_count» → (r : List ℕ) → Sized r → (u : ℕ) → lane r u w ≡ 1 → lane (sweep N on back n r) u w ≡ 1
+      sweep-marked n h r s u e =
+          sweep-keeps (λ (t : List ℕ). Sized t × (lane t u w ≡ 1)) (λ i b _ t q. (carry-sized i t (q .0), carry-keeps readable w l i b t (q .0) u (q .1))) n h r (s, e) .1
+
+      -- the ends of an edge that is on are both marked after its turn if one was
+      levels-after : (n : ℕ) → n ≤ N .«edge_count» → (r : List ℕ) → Sized r → (i j : ℕ) → turned back (N .«edge_count») j ≡ i → j < n → inner N (edgeAt N i) ≡ true → lane on i w ≡ 1
+          → (lane r ((edgeAt N i) .end1) w ≡ 1) ⊎ (lane r ((edgeAt N i) .end2) w ≡ 1)
+          → (lane (sweep N on back n r) ((edgeAt N i) .end1) w ≡ 1) × (lane (sweep N on back n r) ((edgeAt N i) .end2) w ≡ 1)
+      unfolding sweep
+      levels-after zero h r s i j e k t o c = absurd (omega arith)
+      levels-after (suc n) h r s i j e k t o c = go (λ b. levels-after n (omega arith) r s i j e b t o c) (below-cases k)
+        where
+          Level : List ℕ → Type 0
+          Level q = (lane q ((edgeAt N i) .end1) w ≡ 1) × (lane q ((edgeAt N i) .end2) w ≡ 1)
+
+          m : ℕ
+          m = turned back (N .«edge_count») n
+
+          below : m < N .«edge_count»
+          below = turned-below back (N .«edge_count») n (omega (arith, h))
+
+          sized : Sized (sweep N on back n r)
+          sized = sweep-sized n (omega (arith, h)) r s
+
+          marked : (u : ℕ) → lane r u w ≡ 1 → lane (sweep N on back n r) u w ≡ 1
+          marked = sweep-marked n (omega (arith, h)) r s
+
+          go : (j < n → Level (sweep N on back n r)) → (j < n) ⊎ (j ≡ n) → Level (sweep N on back (suc n) r)
+          go f (inl b) =
+              let q : Level (sweep N on back n r) = f b in
+              cond-by Level (inner N (edgeAt N m)) (λ _. (carry-keeps readable w l m below _ sized _ (q .0), carry-keeps readable w l m below _ sized _ (q .1))) (λ _. q)
+          go f (inr b) =
+              let q : i ≡ m = sym e ∙ ap (turned back (N .«edge_count»)) b in
+              cond-by Level (inner N (edgeAt N m))
+              (λ _. subst (λ (x : ℕ). Level (carry x (sweep N on back n r))) q (carry-levels readable w l i (rw q below) (sweep N on back n r) sized o
+              (⊎-elim (λ a. inl (marked _ a)) (λ a. inr (marked _ a)) c)))
+              (λ u. absurd (not-both (inner N (edgeAt N i)) t (rw q u)))
+
+      -- so they are after the whole sweep
+      sweep-levels : (r : List ℕ) → Sized r → (i : ℕ) → i < N .«edge_count» → inner N (edgeAt N i) ≡ true → lane on i w ≡ 1
+          → (lane r ((edgeAt N i) .end1) w ≡ 1) ⊎ (lane r ((edgeAt N i) .end2) w ≡ 1)
+          → (lane (sweep N on back (N .«edge_count») r) ((edgeAt N i) .end1) w ≡ 1) × (lane (sweep N on back (N .«edge_count») r) ((edgeAt N i) .end2) w ≡ 1)
+      sweep-levels r s i h = levels-after (N .«edge_count») (omega arith) r s i (turned back (N .«edge_count») i) (turned-back back _ i h) (turned-below back _ i h)
 
   -- ---- no mark left to carry
 
@@ -151,9 +185,9 @@ unset-fewer r s e kept j l n m =
         (λ t. absurd (not-both (eqb (getD s i 0) 1) (eq-eqb (getD s i 0) 1 (kept i h (eqb-true (getD r i 0) 1 t))) (not-true _ q)))
         (λ t. rw t)
 
-module _ (N : Net) (on r : List ℕ) (readable : Readable N) (sized : Sized r) (binary : (v w : ℕ) → v ≤ mostVertices → w < assignments → lane r v w < 2) where
+module _ (N : Net) (on : List ℕ) (back : Bool) (r : List ℕ) (readable : Readable N) (sized : Sized r) (binary : (v w : ℕ) → v ≤ mostVertices → w < assignments → lane r v w < 2) where
   -- a sweep marks a new place if an edge has a mark left to carry
-  pub unset-falls : isClosed N on r ≡ false → unset (sweep N on (N .«edge_count») r) < unset r
+  pub unset-falls : isClosed N on r ≡ false → unset (sweep N on back (N .«edge_count») r) < unset r
   unset-falls e =
       let (i, h, t, f) = open-edge N on r e in
       let u : ℕ = (edgeAt N i) .end1 in
@@ -161,20 +195,20 @@ module _ (N : Net) (on r : List ℕ) (readable : Readable N) (sized : Sized r) (
       let (w, l, o, n) = level-found on i r u v f in
       let bu : lane r u w < 2 = binary u w (readable .first-end i h) l in
       let bv : lane r v w < 2 = binary v w (readable .second-end i h) l in
-      let both-set = sweep-levels N on readable w l (N .«edge_count») (omega arith) r sized i h t o in
+      let both-set = sweep-levels N on back readable w l r sized i h t o in
       by-test (eqb (lane r u w) 1)
       (λ q. falls v w (readable .second-end i h) l (λ x. n (eqb-true (lane r u w) 1 q ∙ sym x)) (both-set (inl (eqb-true (lane r u w) 1 q)) .1))
       (λ q. falls u w (readable .first-end i h) l (eqb-false (lane r u w) 1 q) (both-set (inr (omega (arith, bu, bv, n, eqb-false (lane r u w) 1 q))) .0))
     where
       s : List ℕ
-      s = sweep N on (N .«edge_count») r
+      s = sweep N on back (N .«edge_count») r
 
       kept : (i : ℕ) → i < length r → getD r i 0 ≡ 1 → getD s i 0 ≡ 1
       kept i h =
           every-place assignments (suc mostVertices) (λ (j : ℕ). getD r j 0 ≡ 1 → getD s j 0 ≡ 1)
-          (λ v w _ l. sweep-marked N on readable w l (N .«edge_count») (omega arith) r sized v) i (omega (arith, sized))
+          (λ v w _ l. sweep-marked N on back readable w l (N .«edge_count») (omega arith) r sized v) i (omega (arith, sized))
 
       falls : (x w : ℕ) → x ≤ mostVertices → w < assignments → lane r x w ≢ 1 → lane s x w ≡ 1 → unset s < unset r
       falls x w hx l n m =
-          unset-fewer r s (sweep-sized N on (N .«edge_count») r sized ∙ sym sized) kept (x * assignments + w)
+          unset-fewer r s (sweep-sized N on back (N .«edge_count») (omega arith) r sized ∙ sym sized) kept (x * assignments + w)
           (omega (arith, sized, cell-inside assignments (suc mostVertices) x w l (omega arith))) n m

@@ -1,7 +1,7 @@
 -- What a turn of a loop over the edges finds, and what it adds to a sweep and to the test of level edges.
 use Prim.Native.Nat.{ℕ, _+_, _<_, _≤_}
 use mathlib.Core.Path.{_≡_, sym, _∙_}
-use mathlib.Core.Bool.{true, false, not}
+use mathlib.Core.Bool.{Bool, true, false, not}
 use mathlib.Core.Logic.{_≢_}
 use mathlib.Core.List.{List}
 use native.Mathlib.Numerals.{add-one}
@@ -18,7 +18,7 @@ use Rattle.net.specs.Tables.{storageFlags}
 use Rattle.net.proofs.TableLaws.{storage-test}
 use Rattle.net.proofs.Flags.{and-false-right}
 use Rattle.lanes.specs.Lanes.{level}
-use Rattle.excitations.specs.Sweeps.{sweep, isClosed}
+use Rattle.excitations.specs.Sweeps.{turned, sweep, isClosed}
 use Rattle.excitations.proofs.Sweeps.{carry, edgeLevel}
 
 module _ (N : Net) (i : ℕ) where
@@ -40,13 +40,14 @@ module _ (N : Net) (i : ℕ) where
   module _ (on r : List ℕ) where
     -- ---- a sweep
 
-    pub sweep-on : inner N (edgeAt N i) ≡ true → carry N on i (sweep N on i r) ≡ sweep N on (i + 1) r
-    unfolding sweep
-    sweep-on e = rw (add-one, sweep, e)
+    module _ (back : Bool) (n : ℕ) (turn : i ≡ turned back (N .«edge_count») n) where
+      pub sweep-on : inner N (edgeAt N i) ≡ true → carry N on i (sweep N on back n r) ≡ sweep N on back (n + 1) r
+      unfolding sweep
+      sweep-on e = rw (add-one, sweep, ← turn, e)
 
-    pub sweep-off : inner N (edgeAt N i) ≡ false → sweep N on i r ≡ sweep N on (i + 1) r
-    unfolding sweep
-    sweep-off e = rw (add-one, sweep, e)
+      pub sweep-off : inner N (edgeAt N i) ≡ false → sweep N on back n r ≡ sweep N on back (n + 1) r
+      unfolding sweep
+      sweep-off e = rw (add-one, sweep, ← turn, e)
 
     -- ---- level edges
 

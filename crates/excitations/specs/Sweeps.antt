@@ -1,6 +1,6 @@
 -- How the code finds connections in lanes. Marks start at the vertices that an edge joins to an input vertex of the value, and sweeps over the edges carry
--- them on until nothing is left to carry.
-use Prim.Native.Nat.{ℕ, zero, suc}
+-- them on, now in the order of the edges and now against it, until nothing is left to carry.
+use Prim.Native.Nat.{ℕ, zero, suc, _-_}
 use mathlib.Core.Bool.{Bool, cond, not, _&&_, _||_}
 use mathlib.Core.List.{List}
 use lib.Dec.{eqb}
@@ -26,13 +26,18 @@ drivenAt N on b n y w = isStorage N y && anyBelow n (λ i. eqb (lane on i w) 1 &
 unfoldable pub drivenLanes : Net → List ℕ → ℕ → List ℕ
 drivenLanes N on b = lanes (suc mostVertices) (λ y w. digit (drivenAt N on b (N .«edge_count») y w))
 
--- marks after the first n edges: an edge between storage vertices that is on carries the mark of either end to the other
-unfoldable pub sweep : Net → List ℕ → ℕ → List ℕ → List ℕ
-sweep N on zero r = r
-sweep N on (suc n) r =
-    let s = sweep N on n r in
-    let e = edgeAt N n in
-    cond (inner N e) (raiseRow on n (e .end2) (e .end1) (raiseRow on n (e .end1) (e .end2) s)) s
+-- the edge that comes as number n, from 0 on, where c edges are taken in their order or, if `back`, against it
+unfoldable pub turned : Bool → ℕ → ℕ → ℕ
+turned back c n = cond back (c - suc n) n
+
+-- marks after the first n edges of a sweep: an edge between storage vertices that is on carries the mark of either end to the other
+unfoldable pub sweep : Net → List ℕ → Bool → ℕ → List ℕ → List ℕ
+sweep N on back zero r = r
+sweep N on back (suc n) r =
+    let s = sweep N on back n r in
+    let i = turned back (N .«edge_count») n in
+    let e = edgeAt N i in
+    cond (inner N e) (raiseRow on i (e .end2) (e .end1) (raiseRow on i (e .end1) (e .end2) s)) s
 
 -- no edge has a mark left to carry
 unfoldable pub isClosed : Net → List ℕ → List ℕ → Bool

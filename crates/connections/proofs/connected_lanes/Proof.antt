@@ -1,4 +1,4 @@
--- `connections::connected_lanes` meets its contract: the marks stand for connections, and each sweep sets a new one. Assumes nothing.
+-- `connections::connected_lanes` meets its contract: the marks stand for connections, and each sweep, in either order, sets a new one. Assumes nothing.
 use mathlib.Core.Path.{_≡_, sym, _∙_}
 use borrow.Author.Tests.{not-true, not-false}
 use Rattle.net.specs.declared.Kind.{Kind}
@@ -10,10 +10,10 @@ use Rattle.connections.proofs.connected_lanes.Tie as tie
 
 -- the loop holds the edges that the kind may use, but not the kind
 abbrev Inv-loop : tie.InvT-loop
-Inv-loop net storage inputs places columns value on marks₀ marks = (k : Kind) → on ≡ usableLanes net k → Marks net k value marks
+Inv-loop net storage inputs places columns value on marks₀ back₀ marks back = (k : Kind) → on ≡ usableLanes net k → Marks net k value marks
 
 abbrev μ-loop : tie.MeasureT-loop
-μ-loop net storage inputs places columns value on marks₀ marks = unset marks
+μ-loop net storage inputs places columns value on marks₀ back₀ marks back = unset marks
 
 usable-lanes-requires : tie.Need-usable-lanes-requires Inv-loop μ-loop
 usable-lanes-requires c κs = (c .pre .0, c .pre .1, c .pre .3, c .pre .4)
@@ -36,14 +36,14 @@ loop-less c =
     let s = t .before .before .before .before in
     let e = t .before .before .before .usable-lanes .ensures in
     rw (c .sweep .ensures, e)
-    (sweep-falls (s .args .net) (s .pre .0 .readable) (s .args .kind) (s .args .value) (t .loop .inv (s .args .kind) e)
+    (sweep-falls (s .args .net) (s .pre .0 .readable) (s .args .kind) (s .args .value) (t .loop .back) (t .loop .inv (s .args .kind) e)
     (rw e at (sym (c .before .before .before .before .is-closed .ensures) ∙ not-true _ (c .before .before .before .if1 .taken))))
 
 loop-again : tie.Need-loop-again Inv-loop μ-loop
 loop-again c =
     let t = c .before .before .before .before .before .before .before in
     let s = t .before .before .before .before in
-    λ k e. rw (c .sweep .ensures, e) (marks-sweep (s .args .net) (s .pre .0 .readable) k (s .args .value) (t .loop .inv k e))
+    λ k e. rw (c .sweep .ensures, e) (marks-sweep (s .args .net) (s .pre .0 .readable) k (s .args .value) (t .loop .back) (t .loop .inv k e))
 
 returns : tie.Need-returns Inv-loop μ-loop
 returns c =
