@@ -6,10 +6,10 @@ use net::Symbol;
 ghost use mathlib.Core.Path.{_≡_};
 ghost use Prim.Native.Nat.{suc, _≤_, _*_};
 ghost use lib.Dec.{eqb};
-ghost use lib.ListN.{length, getD};
+ghost use lib.ListN.{length, getD, replicate};
 ghost use Rattle.ternary.specs.Bits.{digit};
 ghost use Rattle.ternary.specs.Lists.{countBelow};
-ghost use Rattle.net.specs.Limits.{mostVertices};
+ghost use Rattle.net.specs.Limits.{mostVertices, mostEdges};
 ghost use Rattle.net.specs.Symbols.{decode, symbolBound};
 ghost use Rattle.net.specs.State.{admits, conditionOf};
 ghost use Rattle.net.specs.Tables.{Prepared, storageFlags};
@@ -93,18 +93,18 @@ fn usable_at(kind: Kind, form: u8, symbol: u16, bit: u8) -> u8
     )
 }
 
-// 1 where a connection of a kind may use an edge, at each assignment of the signals of the component that the edge touches.
-pub fn usable_lanes<'a>(
+// 1 where a connection of a kind may use an edge, at each assignment of the signals of the component that the edge touches. The table comes as zeros.
+pub fn usable_lanes<'a, 'b>(
+    on: &'a mut [u8; Net::EDGE_LANES],
     net: Net,
-    storage: &'a [u8; Net::VERTEX_PLACES],
-    places: &'a [u8; Net::SYMBOL_PLACES],
-    columns: &'a [u8; Net::COLUMN_LANES],
+    storage: &'b [u8; Net::VERTEX_PLACES],
+    places: &'b [u8; Net::SYMBOL_PLACES],
+    columns: &'b [u8; Net::COLUMN_LANES],
     kind: Kind,
-) -> [u8; Net::EDGE_LANES]
-    requires { ⌜ Fit net × (now storage ≡ storageFlags net) × (now places ≡ signalPlaces net) × (now columns ≡ lane-spec.columns) ⌝ }
-    ensures { λ r. ⌜ r ≡ usableLanes net kind ⌝ }
+)
+    requires { ⌜ Fit net × (now storage ≡ storageFlags net) × (now places ≡ signalPlaces net) × (now columns ≡ lane-spec.columns) × (now on ≡ replicate (mostEdges * lane-spec.assignments) 0) ⌝ }
+    ensures { λ r. ⌜ now (on .exit) ≡ usableLanes net kind ⌝ }
 {
-    let mut on = [0u8; Net::EDGE_LANES];
     let count = net.edge_count as usize;
     for i in 0..count {
         let edge = net.edges[i];
@@ -113,8 +113,7 @@ pub fn usable_lanes<'a>(
             let p = places[y * Symbol::BOUND + edge.symbol as usize];
             let low = usable_at(kind, edge.form, edge.symbol, 0);
             let high = usable_at(kind, edge.form, edge.symbol, 1);
-            lanes::choose_row(&mut on, i, columns, p as usize, low, high);
+            lanes::choose_row(on, i, columns, p as usize, low, high);
         }
     }
-    on
 }

@@ -3,9 +3,10 @@ use net::Kind;
 use net::Net;
 use net::Symbol;
 ghost use mathlib.Core.Path.{_≡_};
-ghost use Prim.Native.Nat.{_<_};
+ghost use Prim.Native.Nat.{_≤_, _<_};
 ghost use lib.Dec.{eqb};
 ghost use Rattle.ternary.specs.Bits.{digit};
+ghost use Rattle.net.specs.Limits.{mostVertices, mostEdges};
 ghost use Rattle.net.specs.Symbols.{decode};
 ghost use Rattle.net.specs.Tables.{Readable, storageFlags, inputLabels};
 ghost use Rattle.lanes.specs.Lanes as lane-spec;
@@ -52,6 +53,25 @@ fn driven<'a>(
     marks
 }
 
+// Edge i between u and v, where it is on, carries the mark of either end to the other. Was there nothing to carry?
+fn carry<'a, 'b>(
+    marks: &'a mut [u8; Net::VERTEX_LANES],
+    u: usize,
+    v: usize,
+    on: &'b [u8; Net::EDGE_LANES],
+    i: usize,
+) -> bool
+    requires { ⌜ (u ≤ mostVertices) × (v ≤ mostVertices) × (i < mostEdges) ⌝ }
+    ensures { λ r. ⌜ (now (marks .exit) ≡ spec.carry (now (on .entry)) i u v (now (marks .entry))) × (r ≡ lane-spec.level (now (on .entry)) i (now (marks .entry)) u v) ⌝ }
+{
+    if lanes::is_level(marks, u, v, on, i) {
+        return true;
+    }
+    lanes::raise_row(marks, u, v, on, i);
+    lanes::raise_row(marks, v, u, on, i);
+    false
+}
+
 // The edge that comes as number n, where the edges are taken in their order or, if `back`, against it.
 fn turned(back: bool, count: usize, n: usize) -> usize
     requires { ⌜ n < count ⌝ }
@@ -60,52 +80,31 @@ fn turned(back: bool, count: usize, n: usize) -> usize
     if back { count - 1 - n } else { n }
 }
 
-// Each edge between storage vertices that is on carries the mark of either end to the other, one edge after the other.
+// The edges between storage vertices carry, one after the other. Was there nothing to carry?
 fn sweep<'a, 'b>(
     marks: &'a mut [u8; Net::VERTEX_LANES],
     net: Net,
     storage: &'b [u8; Net::VERTEX_PLACES],
     on: &'b [u8; Net::EDGE_LANES],
     back: bool,
-)
+) -> bool
     requires { ⌜ Readable net × (now storage ≡ storageFlags net) ⌝ }
-    ensures { λ r. ⌜ now (marks .exit) ≡ spec.sweep net (now (on .entry)) back (net .«edge_count») (now (marks .entry)) ⌝ }
+    ensures { λ r. ⌜ (now (marks .exit) ≡ spec.sweep net (now (on .entry)) back (net .«edge_count») (now (marks .entry))) × (r ≡ spec.isClosed net (now (on .entry)) (now (marks .entry))) ⌝ }
 {
     let count = net.edge_count as usize;
+    let mut closed = true;
     for n in 0..count {
         let i = turned(back, count, n);
         let edge = net.edges[i];
         let u = edge.end1 as usize;
         let v = edge.end2 as usize;
         if storage[u] == 1 && storage[v] == 1 {
-            lanes::raise_row(marks, u, v, on, i);
-            lanes::raise_row(marks, v, u, on, i);
-        }
-    }
-}
-
-// Is there no mark left to carry?
-fn is_closed<'a>(
-    marks: &'a [u8; Net::VERTEX_LANES],
-    net: Net,
-    storage: &'a [u8; Net::VERTEX_PLACES],
-    on: &'a [u8; Net::EDGE_LANES],
-) -> bool
-    requires { ⌜ Readable net × (now storage ≡ storageFlags net) ⌝ }
-    ensures { λ r. ⌜ r ≡ spec.isClosed net (now (on .entry)) (now (marks .entry)) ⌝ }
-{
-    let count = net.edge_count as usize;
-    for i in 0..count {
-        let edge = net.edges[i];
-        let first = edge.end1 as usize;
-        let second = edge.end2 as usize;
-        if storage[first] == 1 && storage[second] == 1 {
-            if !lanes::is_level(marks, first, second, on, i) {
-                return false;
+            if !carry(marks, u, v, on, i) {
+                closed = false;
             }
         }
     }
-    true
+    closed
 }
 
 // 1 where a storage vertex has a connection of a kind to an input vertex of the value.
@@ -121,11 +120,11 @@ pub fn connected_lanes<'a>(
     requires { ⌜ Fit net × (now storage ≡ storageFlags net) × (now inputs ≡ inputLabels net) × (now places ≡ signalPlaces net) × (now columns ≡ lane-spec.columns) ⌝ }
     ensures { λ r. ⌜ r ≡ connectedLanes net kind value ⌝ }
 {
-    let on = conditions::usable_lanes(net, storage, places, columns, kind);
+    let mut on = [0u8; Net::EDGE_LANES];
+    conditions::usable_lanes(&mut on, net, storage, places, columns, kind);
     let mut marks = driven(net, storage, inputs, places, columns, &on, value);
     let mut back = false;
-    while !is_closed(&marks, net, storage, &on) {
-        sweep(&mut marks, net, storage, &on, back);
+    while !sweep(&mut marks, net, storage, &on, back) {
         back = !back;
     }
     marks

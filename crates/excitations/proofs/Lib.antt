@@ -2,6 +2,7 @@ pub mod SameState
 pub mod Edges
 pub mod Carrying
 pub mod Sweeps
+pub mod Levels
 pub mod Marks
 pub mod Turns
 pub mod DrivenLaws

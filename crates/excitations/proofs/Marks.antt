@@ -31,7 +31,7 @@ use Rattle.excitations.specs.Sweeps.{drivenAt, drivenLanes, sweep, isClo
 use Rattle.excitations.proofs.SameState.{input-same, keys-same}
 use Rattle.excitations.proofs.Edges.{joined-component, on-iff}
 use Rattle.excitations.proofs.Carrying.{connected-storage, connected-reaches, driven-connected, link-drives, connected-carried}
-use Rattle.excitations.proofs.Sweeps.{raise-by, carry, sweep-keeps, closed-level, unset, unset-falls}
+use Rattle.excitations.proofs.Sweeps.{raise-by, carryAt, sweep-keeps, closed-level, unset, unset-falls}
 
 pub record Marks (N : Net) (k : Kind) (b : ℕ) (r : List ℕ) : Type 0 where
   pub size : length r ≡ suc mostVertices * assignments
@@ -77,7 +77,7 @@ module _ (N : Net) (readable : Readable N) (k : Kind) (b : ℕ) where
         started = λ x w hx l e. raise-by on i u v r w (m .size) (storage-row N readable v sv) l x (λ y. y ≡ 1) (m .started x w hx l e) (λ _ _ _. refl);
       }
 
-  marks-carry : (i : ℕ) → i < N .«edge_count» → inner N (edgeAt N i) ≡ true → (r : List ℕ) → Marks N k b r → Marks N k b (carry N on i r)
+  marks-carry : (i : ℕ) → i < N .«edge_count» → inner N (edgeAt N i) ≡ true → (r : List ℕ) → Marks N k b r → Marks N k b (carryAt N on i r)
   unfolding inner
   marks-carry i h t r m =
       let s1 : isStorage N ((edgeAt N i) .end1) ≡ true = and-left (isStorage N ((edgeAt N i) .end1)) _ t in

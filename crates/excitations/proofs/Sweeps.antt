@@ -20,7 +20,7 @@ use Rattle.net.specs.Tables.{Readable}
 use Rattle.lanes.specs.Lanes.{assignments, lane, raised, raiseRow, level}
 use Rattle.lanes.proofs.GridLaws.{cell-inside, every-place}
 use Rattle.lanes.proofs.LaneLaws.{raised-up, length-raiseRow, raiseRow-same, raiseRow-other, level-found}
-use Rattle.excitations.specs.Sweeps.{turned, sweep, isClosed}
+use Rattle.excitations.specs.Sweeps.{carry, turned, sweep, isClosed}
 
 -- a row for each number of a vertex
 abbrev pub Sized : List ℕ → Type 0
@@ -34,14 +34,14 @@ turned-below true c n h = omega arith
 turned-below false c n h = h
 
 -- every edge has its turn
-turned-back : (back : Bool) (c i : ℕ) → i < c → turned back c (turned back c i) ≡ i
+pub turned-back : (back : Bool) (c i : ℕ) → i < c → turned back c (turned back c i) ≡ i
 unfolding turned
 turned-back true c i h = omega arith
 turned-back false c i h = refl
 
 -- ---- one row raised
 
-raised-by : (P : ℕ → Type 0) (on from mark : ℕ) → P mark → (on ≡ 1 → from ≡ 1 → P 1) → P (raised on from mark)
+pub raised-by : (P : ℕ → Type 0) (on from mark : ℕ) → P mark → (on ≡ 1 → from ≡ 1 → P 1) → P (raised on from mark)
 unfolding raised
 raised-by P on from mark f g =
     cond-by P (eqb on 1 && eqb from 1)
@@ -67,20 +67,20 @@ module _ (N : Net) (on : List ℕ) where
   -- ---- one edge
 
   -- what edge i carries
-  abbrev pub carry : ℕ → List ℕ → List ℕ
-  carry i r = let e = edgeAt N i in raiseRow on i (e .end2) (e .end1) (raiseRow on i (e .end1) (e .end2) r)
+  abbrev pub carryAt : ℕ → List ℕ → List ℕ
+  carryAt i r = carry on i ((edgeAt N i) .end1) ((edgeAt N i) .end2) r
 
-  carry-sized : (i : ℕ) (r : List ℕ) → Sized r → Sized (carry i r)
+  carry-sized : (i : ℕ) (r : List ℕ) → Sized r → Sized (carryAt i r)
   carry-sized i r s = length-raiseRow on i _ _ _ ∙ length-raiseRow on i _ _ r ∙ s
 
   module _ (readable : Readable N) (w : ℕ) (l : w < assignments) where
-    carry-keeps : (i : ℕ) → i < N .«edge_count» → (r : List ℕ) → Sized r → (u : ℕ) → lane r u w ≡ 1 → lane (carry i r) u w ≡ 1
+    carry-keeps : (i : ℕ) → i < N .«edge_count» → (r : List ℕ) → Sized r → (u : ℕ) → lane r u w ≡ 1 → lane (carryAt i r) u w ≡ 1
     carry-keeps i h r s u e =
         raise-keeps on i _ _ _ w (length-raiseRow on i _ _ r ∙ s) (readable .first-end i h) l u
         (raise-keeps on i _ _ r w s (readable .second-end i h) l u e)
 
     carry-levels : (i : ℕ) → i < N .«edge_count» → (r : List ℕ) → Sized r → lane on i w ≡ 1 → (lane r ((edgeAt N i) .end1) w ≡ 1) ⊎ (lane r ((edgeAt N i) .end2) w ≡ 1)
-        → (lane (carry i r) ((edgeAt N i) .end1) w ≡ 1) × (lane (carry i r) ((edgeAt N i) .end2) w ≡ 1)
+        → (lane (carryAt i r) ((edgeAt N i) .end1) w ≡ 1) × (lane (carryAt i r) ((edgeAt N i) .end2) w ≡ 1)
     carry-levels i h r s o c =
         let u : ℕ = (edgeAt N i) .end1 in
         let v : ℕ = (edgeAt N i) .end2 in
@@ -95,7 +95,7 @@ module _ (N : Net) (on : List ℕ) where
 
   module _ (back : Bool) where
     -- what each edge between storage vertices keeps, a sweep keeps
-    pub sweep-keeps : (Q : List ℕ → Type 0) → ((i : ℕ) → i < N .«edge_count» → inner N (edgeAt N i) ≡ true → (s : List ℕ) → Q s → Q (carry i s)) → (n : ℕ) → n ≤ N .«edge_count»
+    pub sweep-keeps : (Q : List ℕ → Type 0) → ((i : ℕ) → i < N .«edge_count» → inner N (edgeAt N i) ≡ true → (s : List ℕ) → Q s → Q (carryAt i s)) → (n : ℕ) → n ≤ N .«edge_count»
         → (r : List ℕ) → Q r → Q (sweep N on back n r)
     unfolding sweep
     sweep-keeps Q f zero l r q = q
@@ -142,7 +142,7 @@ module _ (N : Net) (on : List ℕ) where
           go f (inr b) =
               let q : i ≡ m = sym e ∙ ap (turned back (N .«edge_count»)) b in
               cond-by Level (inner N (edgeAt N m))
-              (λ _. subst (λ (x : ℕ). Level (carry x (sweep N on back n r))) q (carry-levels readable w l i (rw q below) (sweep N on back n r) sized o
+              (λ _. subst (λ (x : ℕ). Level (carryAt x (sweep N on back n r))) q (carry-levels readable w l i (rw q below) (sweep N on back n r) sized o
               (⊎-elim (λ a. inl (marked _ a)) (λ a. inr (marked _ a)) c)))
               (λ u. absurd (not-both (inner N (edgeAt N i)) t (rw q u)))
 
@@ -158,9 +158,12 @@ module _ (N : Net) (on : List ℕ) where
   abbrev pub edgeLevel : List ℕ → ℕ → Bool
   edgeLevel r i = not (inner N (edgeAt N i)) || level on i r ((edgeAt N i) .end1) ((edgeAt N i) .end2)
 
+  pub level-inner : (r : List ℕ) (i : ℕ) → edgeLevel r i ≡ true → inner N (edgeAt N i) ≡ true → level on i r ((edgeAt N i) .end1) ((edgeAt N i) .end2) ≡ true
+  level-inner r i e t = ⊎-elim (λ f. absurd (not-both (inner N (edgeAt N i)) t (not-true _ f))) (λ f. f) (or-true (not (inner N (edgeAt N i))) _ e)
+
   pub closed-level : (r : List ℕ) → isClosed N on r ≡ true → (i : ℕ) → i < N .«edge_count» → inner N (edgeAt N i) ≡ true → level on i r ((edgeAt N i) .end1) ((edgeAt N i) .end2) ≡ true
   unfolding isClosed
-  closed-level r e i h t = ⊎-elim (λ f. absurd (not-both (inner N (edgeAt N i)) t (not-true _ f))) (λ f. f) (or-true (not (inner N (edgeAt N i))) _ (all-at _ (N .«edge_count») e i h))
+  closed-level r e i h t = level-inner r i (all-at _ (N .«edge_count») e i h) t
 
   -- an edge that has a mark left to carry
   open-edge : (r : List ℕ) → isClosed N on r ≡ false → (i : ℕ) × (i < N .«edge_count») × (inner N (edgeAt N i) ≡ true) × (level on i r ((edgeAt N i) .end1) ((edgeAt N i) .end2) ≡ false)

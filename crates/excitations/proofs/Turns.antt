@@ -1,5 +1,5 @@
--- What a turn of a loop over the edges finds, and what it adds to a sweep and to the test of level edges.
-use Prim.Native.Nat.{ℕ, _+_, _<_, _≤_}
+-- What a turn of a sweep finds, and what it adds to the marks and to the test of level edges.
+use Prim.Native.Nat.{ℕ, _+_, _≤_}
 use mathlib.Core.Path.{_≡_, sym, _∙_}
 use mathlib.Core.Bool.{Bool, true, false, not}
 use mathlib.Core.Logic.{_≢_}
@@ -8,8 +8,7 @@ use native.Mathlib.Numerals.{add-one}
 use lib.ListN.{getD}
 use borrow.Author.Tests.{eq-eqb, ne-eqb}
 use Rattle.ternary.specs.Lists.{allBelow}
-use Rattle.ternary.proofs.Tests.{both, fails, not-both, or-right}
-use Rattle.ternary.proofs.ListLaws.{all-at}
+use Rattle.ternary.proofs.Tests.{both, by-test, or-right}
 use Rattle.net.specs.declared.Net.{Net}
 use Rattle.net.specs.Limits.{mostVertices}
 use Rattle.net.specs.Graph.{edgeAt, isStorage}
@@ -18,8 +17,9 @@ use Rattle.net.specs.Tables.{storageFlags}
 use Rattle.net.proofs.TableLaws.{storage-test}
 use Rattle.net.proofs.Flags.{and-false-right}
 use Rattle.lanes.specs.Lanes.{level}
-use Rattle.excitations.specs.Sweeps.{turned, sweep, isClosed}
-use Rattle.excitations.proofs.Sweeps.{carry, edgeLevel}
+use Rattle.excitations.specs.Sweeps.{turned, sweep}
+use Rattle.excitations.proofs.Sweeps.{carryAt, edgeLevel}
+use Rattle.excitations.proofs.Levels.{levelFirst, sweep-still}
 
 module _ (N : Net) (i : ℕ) where
   -- ---- the flags of the ends
@@ -37,34 +37,37 @@ module _ (N : Net) (i : ℕ) where
     unfolding inner
     outer-second b n = let e : isStorage N ((edgeAt N i) .end2) ≡ false = sym (storage-test N s flags _ b) ∙ ne-eqb _ 1 n in rw e (and-false-right (isStorage N ((edgeAt N i) .end1)))
 
-  module _ (on r : List ℕ) where
-    -- ---- a sweep
+  -- ---- a sweep over the marks r
 
-    module _ (back : Bool) (n : ℕ) (turn : i ≡ turned back (N .«edge_count») n) where
-      pub sweep-on : inner N (edgeAt N i) ≡ true → carry N on i (sweep N on back n r) ≡ sweep N on back (n + 1) r
-      unfolding sweep
-      sweep-on e = rw (add-one, sweep, ← turn, e)
+  module _ (on r : List ℕ) (back : Bool) (n : ℕ) (turn : i ≡ turned back (N .«edge_count») n) where
+    pub sweep-on : inner N (edgeAt N i) ≡ true → carryAt N on i (sweep N on back n r) ≡ sweep N on back (n + 1) r
+    unfolding sweep
+    sweep-on e = rw (add-one, sweep, ← turn, e)
 
-      pub sweep-off : inner N (edgeAt N i) ≡ false → sweep N on back n r ≡ sweep N on back (n + 1) r
-      unfolding sweep
-      sweep-off e = rw (add-one, sweep, ← turn, e)
+    pub sweep-off : inner N (edgeAt N i) ≡ false → sweep N on back n r ≡ sweep N on back (n + 1) r
+    unfolding sweep
+    sweep-off e = rw (add-one, sweep, ← turn, e)
 
-    -- ---- level edges
+    -- ---- level edges: as long as all were level, the marks are still r
 
-    abbrev Before : ℕ → Type 0
-    Before n = allBelow n (edgeLevel N on r) ≡ true
+    turned-level : levelFirst N on back r n ≡ true → edgeLevel N on r (turned back (N .«edge_count») n) ≡ edgeLevel N on (sweep N on back n r) i
+    turned-level t = rw (sweep-still N on back r n t, ← turn)
 
-    level-more : Before i → edgeLevel N on r i ≡ true → Before (i + 1)
+    still-level : {c : Bool} → c ≡ levelFirst N on back r n → edgeLevel N on (sweep N on back n r) i ≡ true → c ≡ levelFirst N on back r (n + 1)
     unfolding allBelow
-    level-more e f = rw (add-one, allBelow, e, f)
+    still-level q e = by-test (levelFirst N on back r n)
+        (λ t. q ∙ t ∙ sym (rw add-one (both t (turned-level t ∙ e))))
+        (λ f. q ∙ f ∙ sym (rw (add-one, allBelow, f)))
 
-    pub level-on : Before i → level on i r ((edgeAt N i) .end1) ((edgeAt N i) .end2) ≡ true → Before (i + 1)
-    level-on e f = level-more e (or-right (not (inner N (edgeAt N i))) _ f)
+    pub level-on : {c : Bool} → c ≡ levelFirst N on back r n → level on i (sweep N on back n r) ((edgeAt N i) .end1) ((edgeAt N i) .end2) ≡ true → c ≡ levelFirst N on back r (n + 1)
+    level-on q e = still-level q (or-right (not (inner N (edgeAt N i))) _ e)
 
-    pub level-off : Before i → inner N (edgeAt N i) ≡ false → Before (i + 1)
-    level-off e f = level-more e (rw f)
+    pub level-off : {c : Bool} → c ≡ levelFirst N on back r n → inner N (edgeAt N i) ≡ false → c ≡ levelFirst N on back r (n + 1)
+    level-off q e = still-level q (rw e)
 
     -- an edge that is not level
-    pub not-closed : i < N .«edge_count» → inner N (edgeAt N i) ≡ true → level on i r ((edgeAt N i) .end1) ((edgeAt N i) .end2) ≡ false → isClosed N on r ≡ false
-    unfolding isClosed
-    not-closed h e f = fails _ (λ t. not-both (edgeLevel N on r i) (all-at (edgeLevel N on r) (N .«edge_count») t i h) (rw (e, f)))
+    pub not-level : inner N (edgeAt N i) ≡ true → level on i (sweep N on back n r) ((edgeAt N i) .end1) ((edgeAt N i) .end2) ≡ false → false ≡ levelFirst N on back r (n + 1)
+    unfolding allBelow
+    not-level t e = by-test (levelFirst N on back r n)
+        (λ f. let u : edgeLevel N on r (turned back (N .«edge_count») n) ≡ false = turned-level f ∙ rw (t, e) in sym (rw (add-one, allBelow, f, u)))
+        (λ f. sym (rw (add-one, allBelow, f)))

@@ -26,18 +26,22 @@ drivenAt N on b n y w = isStorage N y && anyBelow n (λ i. eqb (lane on i w) 1 &
 unfoldable pub drivenLanes : Net → List ℕ → ℕ → List ℕ
 drivenLanes N on b = lanes (suc mostVertices) (λ y w. digit (drivenAt N on b (N .«edge_count») y w))
 
+-- edge i between u and v, where it is on, carries the mark of either end to the other
+abbrev pub carry : List ℕ → ℕ → ℕ → ℕ → List ℕ → List ℕ
+carry on i u v r = raiseRow on i v u (raiseRow on i u v r)
+
 -- the edge that comes as number n, from 0 on, where c edges are taken in their order or, if `back`, against it
 unfoldable pub turned : Bool → ℕ → ℕ → ℕ
 turned back c n = cond back (c - suc n) n
 
--- marks after the first n edges of a sweep: an edge between storage vertices that is on carries the mark of either end to the other
+-- marks after the first n edges of a sweep, in which the edges between storage vertices carry one after the other
 unfoldable pub sweep : Net → List ℕ → Bool → ℕ → List ℕ → List ℕ
 sweep N on back zero r = r
 sweep N on back (suc n) r =
     let s = sweep N on back n r in
     let i = turned back (N .«edge_count») n in
     let e = edgeAt N i in
-    cond (inner N e) (raiseRow on i (e .end2) (e .end1) (raiseRow on i (e .end1) (e .end2) s)) s
+    cond (inner N e) (carry on i (e .end1) (e .end2) s) s
 
 -- no edge has a mark left to carry
 unfoldable pub isClosed : Net → List ℕ → List ℕ → Bool

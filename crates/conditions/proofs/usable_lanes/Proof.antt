@@ -23,23 +23,23 @@ use Rattle.conditions.proofs.usable_lanes.Statement.{statement}
 use Rattle.conditions.proofs.usable_lanes.Tie as tie
 
 abbrev Inv-loop : tie.InvT-loop
-Inv-loop storage places columns kind net on₀ count i₀ on i = (i ≤ count) × (on ≡ firstUsable net kind i)
+Inv-loop on₀ storage places columns kind net count i₀ on i = (i ≤ count) × (on ≡ firstUsable net kind i)
 
 abbrev μ-loop : tie.MeasureT-loop
-μ-loop storage places columns kind net on₀ count i₀ on i = count - i
+μ-loop on₀ storage places columns kind net count i₀ on i = count - i
 
 -- the first end of edge i, and its symbol
-edge-known : (c : tie.In-loop Inv-loop μ-loop) → (let e = getD (c .before .before .args .t1 .edges) (c .before .loop .i) noEdge in (e .end1 ≤ mostVertices) × (e .symbol < symbolBound))
+edge-known : (c : tie.In-loop Inv-loop μ-loop) → (let e = getD (c .before .before .args .t2 .edges) (c .before .loop .i) noEdge in (e .end1 ≤ mostVertices) × (e .symbol < symbolBound))
 unfolding edgeAt
 edge-known c = let fit = c .before .before .pre .0 in (fit .readable .first-end (c .before .loop .i) (c .loop-test .taken), symbol-bound _ (fit .known) (c .before .loop .i) (c .loop-test .taken))
 
 -- the end that is chosen
-owned : (c : tie.After-chosen Inv-loop μ-loop) → (let t = c .before .before .before .before in let N = t .before .before .args .t1 in c .chosen .result ≡ owner N (edgeAt N (t .before .loop .i)))
+owned : (c : tie.After-chosen Inv-loop μ-loop) → (let t = c .before .before .before .before in let N = t .before .before .args .t2 in c .chosen .result ≡ owner N (edgeAt N (t .before .loop .i)))
 unfolding edgeAt
 owned c =
     let t = c .before .before .before .before in
     let s = t .before .before in
-    c .chosen .ensures ∙ owner-chosen (s .args .t1) (s .args .storage .now) (s .pre .1) _ (edge-known t .0)
+    c .chosen .ensures ∙ owner-chosen (s .args .t2) (s .args .storage .now) (s .pre .1) _ (edge-known t .0)
 
 in-table : (c : tie.After-chosen Inv-loop μ-loop) → c .chosen .result ≤ mostVertices
 in-table c =
@@ -47,14 +47,14 @@ in-table c =
     rw (owned c) (owner-range _ (t .before .before .pre .0 .readable) (t .before .loop .i) (t .loop-test .taken))
 
 -- the flag that the loop tests
-storage : (c : tie.After-if12 Inv-loop μ-loop) → (let t = c .before .before .before .before .before in let s = t .before .before in let N = s .args .t1 in
+storage : (c : tie.After-if12 Inv-loop μ-loop) → (let t = c .before .before .before .before .before in let s = t .before .before in let N = s .args .t2 in
     isStorage N (owner N (edgeAt N (t .before .loop .i))) ≡ eqb (getD (s .args .storage .now) (c .before .chosen .result) 0) 1)
 storage c =
     let s = c .before .before .before .before .before .before .before in
     rw (← owned (c .before)) (sym (storage-test _ _ (s .pre .1) (c .before .chosen .result) (in-table (c .before))))
 
 -- the place of the symbol's signal
-place : (c : tie.After-if12 Inv-loop μ-loop) → (let t = c .before .before .before .before .before in let s = t .before .before in let N = s .args .t1 in let e = getD (N .edges) (t .before .loop .i) noEdge in
+place : (c : tie.After-if12 Inv-loop μ-loop) → (let t = c .before .before .before .before .before in let s = t .before .before in let N = s .args .t2 in let e = getD (N .edges) (t .before .loop .i) noEdge in
     isStorage N (owner N e) ≡ true → getD (s .args .places .now) (c .before .chosen .result * symbolBound + e .symbol) 0 ≡ signalIndex N (owner N e) (e .symbol))
 unfolding edgeAt
 place c sy =
@@ -64,7 +64,7 @@ place c sy =
     rw (owned (c .before), s .pre .2) (place-read _ _ _ sy (owner-range _ (s .pre .0 .readable) i (t .loop-test .taken)) (edge-known t .1))
 
 -- it is a row of the columns
-place-few : (c : tie.Then1 Inv-loop μ-loop) → (let t = c .before .before .before .before .before .before in let s = t .before .before in let e = getD (s .args .t1 .edges) (t .before .loop .i) noEdge in
+place-few : (c : tie.Then1 Inv-loop μ-loop) → (let t = c .before .before .before .before .before .before in let s = t .before .before in let e = getD (s .args .t2 .edges) (t .before .loop .i) noEdge in
     getD (s .args .places .now) (c .before .before .chosen .result * symbolBound + e .symbol) 0 ≤ mostSignals)
 unfolding edgeAt
 place-few c =
@@ -80,7 +80,7 @@ cast-count : tie.Need-cast-count Inv-loop μ-loop
 cast-count c = search needs
 
 loop-holds : tie.Need-loop-holds Inv-loop μ-loop
-loop-holds c = (search needs, usable-none _ _)
+loop-holds c = (search needs, c .pre .4 ∙ usable-none _ _)
 
 mul-edge : tie.Need-mul-edge Inv-loop μ-loop
 mul-edge c = omega (arith, c .before .before .pre .0 .readable .edges)
@@ -121,9 +121,6 @@ usable-at-requires c κs = search needs
 usable-at-requires-2 : tie.Need-usable-at-requires-2 Inv-loop μ-loop
 usable-at-requires-2 c κs = search needs
 
-slice-aggregate-choose-row : tie.Need-slice-aggregate-choose-row Inv-loop μ-loop
-slice-aggregate-choose-row c = sym (size (c .before .before .before .before .before .before .before .before .before .before .before))
-
 cast-choose-row : tie.Need-cast-choose-row Inv-loop μ-loop
 cast-choose-row c = omega (arith, place-few (c .before .before .before .before .before))
 
@@ -149,15 +146,15 @@ loop-again c =
       search needs,
       ⊎-elim
           (λ w. let sy = storage (c .before) ∙ eq-eqb _ _ (w .0 .taken) in
-          w .8 ∙ usable-step (s .args .t1) (s .args .kind) (s .pre .0) i (t .loop-test .taken) sy (place (c .before) sy) (w .3 .ensures) (w .4 .ensures) e (w .6 .ensures))
-          (λ w. w .1 ∙ usable-skip (s .args .t1) (s .args .kind) i (storage (c .before) ∙ ne-eqb _ _ (w .0 .left)) e)
+          w .7 ∙ usable-step (s .args .t2) (s .args .kind) (s .pre .0) i (t .loop-test .taken) sy (place (c .before) sy) (w .3 .ensures) (w .4 .ensures) e (w .6 .ensures))
+          (λ w. w .1 ∙ usable-skip (s .args .t2) (s .args .kind) i (storage (c .before) ∙ ne-eqb _ _ (w .0 .left)) e)
           (c .if1 .came),
     )
 
 returns : tie.Need-returns Inv-loop μ-loop
 returns c =
     let s = c .before .before in
-    let q : c .before .loop .i ≡ s .args .t1 .«edge_count» = omega arith in
+    let q : c .before .loop .i ≡ s .args .t2 .«edge_count» = omega arith in
     rw q at (c .before .loop .inv .1) ∙ usable-all _ _
 
 pub usable-lanes-spec : {M : Type 1} → statement M
@@ -181,7 +178,6 @@ usable-lanes-spec =
     element-copy-out-p
     usable-at-requires
     usable-at-requires-2
-    slice-aggregate-choose-row
     cast-choose-row
     choose-row-requires
     add-i

@@ -1,25 +1,28 @@
--- `connections::sweep` meets its contract: the marks are those after the first n edges in the order of the sweep. Assumes nothing.
+-- `connections::sweep` meets its contract: the marks are those after the first n edges in the order of the sweep, and it is known whether those edges were level. Assumes nothing.
 use native.Mathlib.Omega.{arith}
 use borrow.Author.Needs.{needs}
-use mathlib.Core.Path.{_≡_, refl, ap, _∙_}
+use mathlib.Core.Path.{_≡_, refl, sym, ap, _∙_}
 use mathlib.Core.Logic.{⊎-elim}
-use Prim.Native.Nat.{_≤_, _<_, _-_}
+use mathlib.Core.List.{List}
+use Prim.Native.Nat.{ℕ, _+_, _≤_, _<_, _-_}
 use lib.ListN.{getD}
-use borrow.Author.Tests.{eqb-true, eqb-false}
+use borrow.Author.Tests.{eqb-true, eqb-false, not-true, not-false}
+use Rattle.ternary.specs.Lists.{allBelow}
 use Rattle.net.specs.Limits.{mostVertices}
 use Rattle.net.specs.Graph.{noEdge, edgeAt}
-use Rattle.lanes.specs.Lanes.{raiseRow}
+use Rattle.lanes.specs.Lanes.{level}
 use Rattle.excitations.specs.Sweeps.{sweep}
-use Rattle.excitations.proofs.Sweeps.{turned-below}
-use Rattle.excitations.proofs.Turns.{inner-by-flags, outer-first, outer-second, sweep-on, sweep-off}
+use Rattle.excitations.proofs.Sweeps.{turned-below, carryAt}
+use Rattle.excitations.proofs.Levels.{levelFirst, level-all}
+use Rattle.excitations.proofs.Turns.{inner-by-flags, outer-first, outer-second, sweep-on, sweep-off, level-on, level-off, not-level}
 use Rattle.connections.proofs.sweep.Statement.{statement}
 use Rattle.connections.proofs.sweep.Tie as tie
 
 abbrev Inv-loop : tie.InvT-loop
-Inv-loop marks₀ storage on back net count n₀ marks n = (n ≤ count) × (marks ≡ sweep net on back n marks₀)
+Inv-loop marks₀ storage on back net count closed₀ n₀ marks closed n = (n ≤ count) × (marks ≡ sweep net on back n marks₀) × (closed ≡ levelFirst net on back marks₀ n)
 
 abbrev μ-loop : tie.MeasureT-loop
-μ-loop marks₀ storage on back net count n₀ marks n = count - n
+μ-loop marks₀ storage on back net count closed₀ n₀ marks closed n = count - n
 
 -- the edge whose turn it is
 in-net : (c : tie.After-turned Inv-loop μ-loop) → c .turned .result < c .before .before .before .args .t2 .«edge_count»
@@ -34,8 +37,8 @@ cast-count : tie.Need-cast-count Inv-loop μ-loop
 cast-count c = search needs
 
 loop-holds : tie.Need-loop-holds Inv-loop μ-loop
-unfolding sweep
-loop-holds c = (search needs, refl)
+unfolding sweep allBelow
+loop-holds c = (search needs, refl, refl)
 
 turned-requires : tie.Need-turned-requires Inv-loop μ-loop
 turned-requires c κs = search needs
@@ -58,15 +61,10 @@ element-copy-out-if1 c = omega (arith, ends (c .before .before .before))
 element-copy-out-if2 : tie.Need-element-copy-out-if2 Inv-loop μ-loop
 element-copy-out-if2 c = omega (arith, ends (c .before .before .before .before .before))
 
-raise-row-requires : tie.Need-raise-row-requires Inv-loop μ-loop
-raise-row-requires c κs =
-    let t = c .before .before .before .before .before .before .before .before .before in
-    omega (arith, ends t, in-net t, t .before .before .before .pre .0 .edges)
-
-raise-row-requires-2 : tie.Need-raise-row-requires-2 Inv-loop μ-loop
-raise-row-requires-2 c κs =
-    let t = c .before .before .before .before .before .before .before .before .before .before .before .before in
-    omega (arith, ends t, in-net t, t .before .before .before .pre .0 .edges)
+carry-requires : tie.Need-carry-requires Inv-loop μ-loop
+carry-requires c κs =
+    let t = c .before .before .before .before .before .before .before .before in
+    (ends t .0, ends t .1, omega (arith, in-net t, t .before .before .before .pre .0 .edges))
 
 add-n : tie.Need-add-n Inv-loop μ-loop
 add-n c = search needs
@@ -74,29 +72,49 @@ add-n c = search needs
 loop-less : tie.Need-loop-less Inv-loop μ-loop
 loop-less c = search needs
 
-loop-again : tie.Need-loop-again Inv-loop μ-loop
+-- what a turn makes of the marks, and whether the edges so far were level
+turn : (c : tie.Joined1-2 Inv-loop μ-loop) → (let t = c .before .before .before .before .before in let s = t .before .before .before in let n = t .before .before .loop .n in
+    (c .if1 .marks ≡ sweep (s .args .t2) (s .args .on .now) (s .args .back) (n + 1) (s .args .marks .now))
+    × (c .if1 .closed ≡ levelFirst (s .args .t2) (s .args .on .now) (s .args .back) (s .args .marks .now) (n + 1)))
 unfolding edgeAt
-loop-again c =
+turn c =
     let t = c .before .before .before .before .before in
     let s = t .before .before .before in
+    let N = s .args .t2 in
     let i = t .turned .result in
     let e = t .turned .ensures in
     let n = t .before .before .loop .n in
-    let swept = t .before .before .loop .inv .1 in (
-      search needs,
-      ⊎-elim
-          (λ w. w .9 ∙ w .8 .ensures ∙ ap (raiseRow _ _ _ _) (w .5 .ensures ∙ ap (raiseRow _ _ _ _) swept)
-          ∙ sweep-on (s .args .t2) i (s .args .on .now) (s .args .marks .now) (s .args .back) n e
-          (inner-by-flags (s .args .t2) i (s .pre .1) (ends t .0) (ends t .1) (w .0 .taken) (eqb-true _ 1 (w .2 .taken))))
-          (λ o. o .1 ∙ swept ∙ sweep-off (s .args .t2) i (s .args .on .now) (s .args .marks .now) (s .args .back) n e
-          (⊎-elim (λ w. outer-second (s .args .t2) i (s .pre .1) (ends t .1) (eqb-false _ 1 (w .2 .left))) (λ w. outer-first (s .args .t2) i (s .pre .1) (ends t .0) (w .left)) (o .0 .came)))
-          (c .if1 .came),
-    )
+    let swept = t .before .before .loop .inv .1 in
+    let seen = ap (λ (r : List ℕ). level (s .args .on .now) i r ((edgeAt N i) .end1) ((edgeAt N i) .end2)) (sym swept) in
+    ⊎-elim
+    (λ w.
+    let inside = inner-by-flags N i (s .pre .1) (ends t .0) (ends t .1) (w .0 .taken) (eqb-true _ 1 (w .2 .taken)) in (
+      w .6 ∙ w .4 .ensures .0 ∙ ap (carryAt N (s .args .on .now) i) swept ∙ sweep-on N i (s .args .on .now) (s .args .marks .now) (s .args .back) n e inside,
+      w .7 ∙ not-level N i (s .args .on .now) (s .args .marks .now) (s .args .back) n e inside (seen ∙ sym (w .4 .ensures .1) ∙ not-true _ (w .5 .taken)),
+    ))
+    (⊎-elim
+    (λ w.
+    let inside = inner-by-flags N i (s .pre .1) (ends t .0) (ends t .1) (w .0 .taken) (eqb-true _ 1 (w .2 .taken)) in (
+      w .6 ∙ w .4 .ensures .0 ∙ ap (carryAt N (s .args .on .now) i) swept ∙ sweep-on N i (s .args .on .now) (s .args .marks .now) (s .args .back) n e inside,
+      w .7 ∙ level-on N i (s .args .on .now) (s .args .marks .now) (s .args .back) n e (t .before .before .loop .inv .2) (seen ∙ sym (w .4 .ensures .1) ∙ not-false _ (w .5 .left)),
+    ))
+    (λ o.
+    let outside = ⊎-elim (λ w. outer-second N i (s .pre .1) (ends t .1) (eqb-false _ 1 (w .2 .left))) (λ w. outer-first N i (s .pre .1) (ends t .0) (w .left)) (o .0 .came) in (
+      o .1 ∙ swept ∙ sweep-off N i (s .args .on .now) (s .args .marks .now) (s .args .back) n e outside,
+      o .2 ∙ level-off N i (s .args .on .now) (s .args .marks .now) (s .args .back) n e (t .before .before .loop .inv .2) outside,
+    )))
+    (c .if1 .came)
+
+loop-again : tie.Need-loop-again Inv-loop μ-loop
+loop-again c = (search needs, turn c .0, turn c .1)
 
 returns : tie.Need-returns Inv-loop μ-loop
 returns c =
-    let q : c .before .loop .n ≡ c .before .before .args .t2 .«edge_count» = omega arith in
-    rw q at (c .before .loop .inv .1)
+    let s = c .before .before in
+    let q : c .before .loop .n ≡ s .args .t2 .«edge_count» = omega arith in (
+      rw q at (c .before .loop .inv .1),
+      rw q at (c .before .loop .inv .2) ∙ level-all _ _ _ _,
+    )
 
 pub sweep-spec : {M : Type 1} → statement M
 sweep-spec =
@@ -113,8 +131,7 @@ sweep-spec =
     cast-v
     element-copy-out-if1
     element-copy-out-if2
-    raise-row-requires
-    raise-row-requires-2
+    carry-requires
     add-n
     loop-less
     loop-again
