@@ -53,7 +53,8 @@ fn driven<'a>(
     marks
 }
 
-// Edge i between u and v, where it is on, carries the mark of either end to the other. Was there nothing to carry?
+// Edge i between u and v, where it is on, carries the mark of either end to the other. Was there nothing to carry? Mostly so, and the test costs less
+// than carrying.
 fn carry<'a, 'b>(
     marks: &'a mut [u8; Net::VERTEX_LANES],
     u: usize,
@@ -123,6 +124,7 @@ pub fn connected_lanes<'a>(
     let mut on = [0u8; Net::EDGE_LANES];
     conditions::usable_lanes(&mut on, net, storage, places, columns, kind);
     let mut marks = driven(net, storage, inputs, places, columns, &on, value);
+    // A chain of edges that stand against the order takes one sweep back, but a sweep an edge forward.
     let mut back = false;
     while !sweep(&mut marks, net, storage, &on, back) {
         back = !back;

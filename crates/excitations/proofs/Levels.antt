@@ -2,7 +2,7 @@
 -- a mark left to carry.
 use Prim.Native.Nat.{ℕ, zero, suc}
 use mathlib.Core.Path.{_≡_, refl, sym, ap, _∙_}
-use mathlib.Core.Bool.{Bool, true, false}
+use mathlib.Core.Bool.{Bool, true}
 use mathlib.Core.List.{List}
 use native.Mathlib.Omega.{arith}
 use Rattle.ternary.specs.Lists.{allBelow}
@@ -11,7 +11,7 @@ use Rattle.ternary.proofs.ListLaws.{all-at, all-of}
 use Rattle.net.specs.declared.Net.{Net}
 use Rattle.net.specs.Graph.{edgeAt}
 use Rattle.net.specs.Classes.{inner}
-use Rattle.lanes.specs.Lanes.{assignments, lane, raiseRow, level}
+use Rattle.lanes.specs.Lanes.{lane, raiseRow, level}
 use Rattle.lanes.proofs.GridLaws.{row-end}
 use Rattle.lanes.proofs.LaneLaws.{level-read, level-of}
 use Rattle.excitations.specs.Sweeps.{carry, turned, sweep, isClosed}

@@ -1,6 +1,6 @@
 -- `connections::carry` meets its contract: an edge whose ends are level carries nothing. Assumes nothing.
 use native.Mathlib.Omega.{arith}
-use mathlib.Core.Path.{_≡_, sym, ap, _∙_}
+use mathlib.Core.Path.{sym, ap, _∙_}
 use Rattle.lanes.specs.Lanes.{raiseRow}
 use Rattle.excitations.proofs.Levels.{carry-level}
 use Rattle.connections.proofs.carry.Statement.{statement}
