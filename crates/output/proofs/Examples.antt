@@ -15,12 +15,12 @@ use Rattle.verdict.specs.Verdict.{verdictRows, verdictOf}
 use Rattle.settlements.specs.Settle.{written, settleUnder}
 use Rattle.settlements.specs.Batch.{jobCount, pieces, jobRows, jobSettlement, runJobs, batchRows, batchOf}
 use Rattle.output.specs.Text.{vectorText, jobText, jobTexts}
-use Rattle.output.specs.Output.{firstLine, openingText, batchFor, netText, jobsText, outputOf}
+use Rattle.output.specs.Output.{firstLine, judgedOf, openingText, batchFor, netText, jobsText, outputOf}
 
 opened : Unit {0}
 unfolding
     open-all every common H passes.settleBy passes.mix passes.firstPass passes.secondPass passes.settled byRows verdictRows verdictOf written settleUnder
-    jobCount pieces jobRows jobSettlement runJobs batchRows batchOf vectorText jobText jobTexts firstLine openingText batchFor netText jobsText outputOf
+    jobCount pieces jobRows jobSettlement runJobs batchRows batchOf vectorText jobText jobTexts firstLine judgedOf openingText batchFor netText jobsText outputOf
 opened = tt
 
 jobs : List ℕ

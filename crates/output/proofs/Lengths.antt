@@ -12,7 +12,6 @@ use Rattle.ternary.proofs.Tests.{cond-by}
 use Rattle.sheet.specs.Limits.{fieldWidth, blank, lineEnd}
 use Rattle.sheet.specs.Line.{writeNumber}
 use Rattle.sheet.specs.declared.Answer.{Answer}
-use Rattle.sheet.specs.Reading.{readSheet}
 use Rattle.sheet.proofs.FieldLaws.{length-field}
 use Rattle.settlements.specs.Batch.{answerWidth}
 use Rattle.output.specs.Limits.{openingBytes, jobBytes, hyphen}
@@ -33,8 +32,7 @@ length-first a h = simp (length-append, length-field)
 
 pub length-opening : (sheet : List ℕ) → length (openingText sheet) ≡ openingBytes
 unfolding openingText
-length-opening sheet =
-    cond-by (λ (l : List ℕ). length l ≡ openingBytes) (eqb (readSheet sheet .answer .number) 0) (λ _. length-first _ _) (λ _. length-first _ _)
+length-opening sheet = length-first _ _
 
 -- ---- the line of a job
 

@@ -12,6 +12,7 @@ use Rattle.sheet.specs.declared.Answer.{Answer}
 use Rattle.sheet.specs.Reading.{readSheet}
 use Rattle.verdict.specs.Verdict.{verdictOf}
 use Rattle.settlements.specs.Batch.{jobCount, jobWidth, answerWidth, Batch, batchOf}
+use Rattle.output.specs.declared.Judged.{Judged}
 use Rattle.output.specs.Limits.{mostJobs}
 use Rattle.output.specs.Text.{jobTexts}
 
@@ -19,13 +20,20 @@ use Rattle.output.specs.Text.{jobTexts}
 unfoldable pub firstLine : Answer → ℕ → List ℕ
 firstLine a h = writeNumber 0 ++ writeNumber (a .number) ++ writeNumber (a .place) ++ writeNumber h ++ lineEnd ∷ []
 
--- of a sheet: the reader's number, h then being 0, or else the verdict
-unfoldable pub openingText : List ℕ → List ℕ
-openingText sheet =
+abbrev pub judged : Answer → ℕ → Judged
+judged a h = record { answer = a; keys = h }
+
+-- what a sheet is judged to be: the reader's number, h then being 0, or else the verdict
+unfoldable pub judgedOf : List ℕ → Judged
+judgedOf sheet =
     let reading = readSheet sheet in
     cond (eqb (reading .answer .number) 0)
-    (firstLine (verdictOf (reading .net)) (keyCount (reading .net)))
-    (firstLine (reading .answer) 0)
+    (judged (verdictOf (reading .net)) (keyCount (reading .net)))
+    (judged (reading .answer) 0)
+
+-- the first line of a sheet
+unfoldable pub openingText : List ℕ → List ℕ
+openingText sheet = firstLine (judgedOf sheet .answer) (judgedOf sheet .keys)
 
 -- after these verdicts the jobs are run: well formed, or C2 or C3 alone broken
 abbrev pub goesOn : ℕ → Bool

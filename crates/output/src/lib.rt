@@ -1,11 +1,18 @@
 //! The text that the program writes: definitions and laws, from the bytes of its two files to the bytes of its output. The code is in the crates `job_lines` and `report`.
 use net::Net;
+use sheet::Answer;
 use sheet::Sheet;
 
 // What a call wrote: so many bytes, or none because the buffer is shorter than the call asks for.
 pub enum Written {
     Short,
     Bytes(u32),
+}
+
+// What a sheet is judged to be: the reader's answer or the verdict, and h.
+pub struct Judged {
+    pub answer: Answer,
+    pub keys: u32,
 }
 
 // Limits and bytes of the output.

@@ -1,4 +1,4 @@
--- The first line, by the reader's answer.
+-- What a sheet is judged to be, by the reader's answer, and its first line.
 use Prim.Native.Nat.{ℕ, _≤_, _<_}
 use mathlib.Core.Path.{_≡_}
 use mathlib.Core.List.{List, _++_}
@@ -10,35 +10,30 @@ use Rattle.sheet.specs.declared.Answer.{Answer}
 use Rattle.sheet.specs.declared.Reading.{Reading}
 use Rattle.sheet.specs.Reading.{readSheet}
 use Rattle.verdict.specs.Verdict.{verdictOf}
+use Rattle.output.specs.declared.Judged.{Judged}
 use Rattle.output.specs.declared.Written.the-variants.{Short, Bytes}
 use Rattle.output.specs.Limits.{openingBytes}
-use Rattle.output.specs.Output.{firstLine, openingText}
+use Rattle.output.specs.Output.{firstLine, judged, judgedOf, openingText}
 use Rattle.output.specs.Calls.{report, openingOf}
 use Rattle.output.proofs.Lengths.{length-first}
 use Rattle.output.proofs.Placed.{put-short, put-whole}
+
+module _ (sheet : List ℕ) (r : Reading) (read : r ≡ readSheet sheet) where
+  pub judge-refused : r .answer .number ≢ 0 → judged (r .answer) 0 ≡ judgedOf sheet
+  unfolding judgedOf
+  judge-refused ne = rw (← read, ne-eqb (r .answer .number) 0 ne)
+
+  pub judge-read : r .answer .number ≡ 0 → {a : Answer} → a ≡ verdictOf (r .net) → {h : ℕ} → h ≡ keyCount (r .net) → judged a h ≡ judgedOf sheet
+  unfolding judgedOf
+  judge-read e verdict keys = rw (← read, eq-eqb (r .answer .number) 0 e, verdict, keys)
 
 module _ (sheet out : List ℕ) where
   pub opening-short : length out < openingBytes → report Short out ≡ openingOf sheet out
   unfolding openingOf
   opening-short h = put-short openingBytes (openingText sheet) out h
 
-  module _ (room : openingBytes ≤ length out) (r : Reading) (read : r ≡ readSheet sheet) where
-    refused-text : r .answer .number ≢ 0 → openingText sheet ≡ firstLine (r .answer) 0
-    unfolding openingText
-    refused-text ne = rw (← read, ne-eqb (r .answer .number) 0 ne)
-
-    judged-text : r .answer .number ≡ 0 → openingText sheet ≡ firstLine (verdictOf (r .net)) (keyCount (r .net))
-    unfolding openingText
-    judged-text e = rw (← read, eq-eqb (r .answer .number) 0 e)
-
-    pub opening-refused : r .answer .number ≢ 0 → {text : List ℕ} → text ≡ firstLine (r .answer) 0
-        → report (Bytes openingBytes) (text ++ drop openingBytes out) ≡ openingOf sheet out
-    unfolding openingOf
-    opening-refused ne same =
-        rw (same, refused-text ne) (put-whole openingBytes (firstLine (r .answer) 0) out room (length-first (r .answer) 0))
-
-    pub opening-judged : r .answer .number ≡ 0 → {a : Answer} → a ≡ verdictOf (r .net) → {h : ℕ} → h ≡ keyCount (r .net) → {text : List ℕ} → text ≡ firstLine a h
-        → report (Bytes openingBytes) (text ++ drop openingBytes out) ≡ openingOf sheet out
-    unfolding openingOf
-    opening-judged e {a = a} verdict {h = h} keys same =
-        rw (same, judged-text e, ← verdict, ← keys) (put-whole openingBytes (firstLine a h) out room (length-first a h))
+  pub opening-judged : openingBytes ≤ length out → {j : Judged} → j ≡ judgedOf sheet → {text : List ℕ} → text ≡ firstLine (j .answer) (j .keys)
+      → report (Bytes openingBytes) (text ++ drop openingBytes out) ≡ openingOf sheet out
+  unfolding openingOf openingText
+  opening-judged room {j = j} is same =
+      rw (same, ← is) (put-whole openingBytes (firstLine (j .answer) (j .keys)) out room (length-first (j .answer) (j .keys)))

@@ -3,37 +3,48 @@
 mod pieces;
 
 use graph::tables;
+use output::Judged;
 use output::Report;
 use output::Written;
 ghost use mathlib.Core.Path.{_≡_};
+ghost use Rattle.output.specs.Output.{judgedOf};
 ghost use Rattle.output.specs.Calls.{report, openingOf, pieceOf};
 
-// The first line: the reader's number, or else the verdict.
+// What a sheet is judged to be: the reader's number, or else the verdict with h.
+pub fn judge(sheet: &[u8]) -> Judged
+    ensures { λ j. ⌜ j ≡ judgedOf (now (sheet .entry)) ⌝ }
+{
+    let reading = reader::read(sheet);
+    let read = reading.answer;
+    if read.number != 0 {
+        return Judged {
+            answer: read,
+            keys: 0,
+        };
+    }
+    let net = reading.net;
+    let judged = verdict::verdict(net);
+    let h = tables::key_count(net);
+    Judged {
+        answer: judged,
+        keys: h as u32,
+    }
+}
+
+// The first line of a sheet.
 pub fn opening<'a, 'b>(sheet: &'a [u8], out: &'b mut [u8]) -> Written
     ensures { λ w. ⌜ report w (now (out .exit)) ≡ openingOf (now (sheet .entry)) (now (out .entry)) ⌝ }
 {
     if out.len() < Report::OPENING_BYTES {
         return Written::Short;
     }
-    let reading = reader::read(sheet);
-    let read = reading.answer;
-    if read.number != 0 {
-        job_lines::write_first_line(
-            &mut out[0..Report::OPENING_BYTES],
-            read.number,
-            read.place,
-            0,
-        );
-        return Written::Bytes(Report::OPENING_BYTES as u32);
-    }
-    let net = reading.net;
-    let judged = verdict::verdict(net);
-    let h = tables::key_count(net);
+    let judged = judge(sheet);
+    let answer = judged.answer;
     job_lines::write_first_line(
         &mut out[0..Report::OPENING_BYTES],
-        judged.number,
-        judged.place,
-        h,
+        answer.number,
+        answer.place,
+        judged.keys as usize,
     );
     Written::Bytes(Report::OPENING_BYTES as u32)
 }
