@@ -20,12 +20,12 @@ use Rattle.sheet.proofs.ReadLaws.{valid-iff-accepted}
 use Rattle.sheet.proofs.Outcome.{Outcome, outcome}
 use Rattle.sheet.proofs.LineLaws.{FullLine, line-found, line-missing, line-empty}
 use Rattle.sheet.proofs.JobLaws.{JobBytes, job-number as line-refused}
-use Rattle.verdict.specs.declared.Excited.{Excited}
-use Rattle.verdict.specs.declared.Excited.the-variants.{Value, Refused as NoValue}
-use Rattle.verdict.specs.Excited.{excitationRows, excitedOf, excitedNumber, excitedPlace}
-use Rattle.verdict.specs.Verdict.{verdictRows, verdictOf}
-use Rattle.verdict.proofs.ExcitedLaws.{excited-zero, excited-number}
-use Rattle.verdict.proofs.VerdictLaws.{verdict-zero, verdict-number}
+use Rattle.soundness.specs.declared.Excited.{Excited}
+use Rattle.soundness.specs.declared.Excited.the-variants.{Value, Refused as NoValue}
+use Rattle.soundness.specs.Excited.{excitationRows, excitedOf, excitedNumber, excitedPlace}
+use Rattle.soundness.specs.Verdict.{verdictRows, verdictOf}
+use Rattle.soundness.proofs.ExcitedLaws.{excited-zero, excited-number}
+use Rattle.soundness.proofs.VerdictLaws.{verdict-zero, verdict-number}
 use Rattle.settlements.specs.Settle.{settleOf}
 use Rattle.settlements.specs.Batch.{jobCount, pieces, jobWidth, jobSettlement, runJobs, Batch, batchRows, batchOf}
 use Rattle.settlements.proofs.SettleLaws.{settle-zero, settle-number, settle-refused}

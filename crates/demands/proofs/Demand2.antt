@@ -24,11 +24,11 @@ use Rattle.sheet.specs.Reading.{readSheet}
 use Rattle.sheet.specs.Valid.{valid}
 use Rattle.sheet.proofs.ReadLaws.{read-valid}
 use Rattle.sheet.proofs.Known.{valid-known}
-use Rattle.verdict.specs.declared.Excited.the-variants.{Value}
-use Rattle.verdict.specs.Excited.{excitedOf}
-use Rattle.verdict.specs.Verdict.{verdictOf}
-use Rattle.verdict.proofs.ExcitedLaws.{excited-accepts}
-use Rattle.verdict.proofs.VerdictLaws.{LowestC1, LowestC3, verdict-0, verdict-31, verdict-32, verdict-33}
+use Rattle.soundness.specs.declared.Excited.the-variants.{Value}
+use Rattle.soundness.specs.Excited.{excitedOf}
+use Rattle.soundness.specs.Verdict.{verdictOf}
+use Rattle.soundness.proofs.ExcitedLaws.{excited-accepts}
+use Rattle.soundness.proofs.VerdictLaws.{LowestC1, LowestC3, verdict-0, verdict-31, verdict-32, verdict-33}
 use Rattle.settlements.specs.Settle.{written, settleOf}
 use Rattle.settlements.specs.Batch.{Batch}
 use Rattle.settlements.proofs.SettleLaws.{settle-accepts}

@@ -4,7 +4,7 @@ use Rattle.ternary.specs.Excitation.{common, H}
 use Rattle.ternary.specs.Passes.{settleBy, mix, firstPass, secondPass, settled}
 use Rattle.sheet.specs.Rows.{byRows}
 use Rattle.sheet.proofs.Sheets.{open-all}
-use Rattle.verdict.specs.Excited.{excitationRows, excitedOf}
+use Rattle.soundness.specs.Excited.{excitationRows, excitedOf}
 use Rattle.settlements.specs.Settle.{written, settleUnder, settleRows, settleOf}
 use Rattle.settlements.specs.Batch.{jobCount, pieces, jobRows, jobSettlement, runJobs, batchRows, batchOf}
 

@@ -7,9 +7,9 @@ use Rattle.sheet.specs.declared.JobLine.the-variants.{Asked, Refused}
 use Rattle.sheet.specs.Reading.{readSheet}
 use Rattle.sheet.specs.Job.{jobOf, jobNumber}
 use Rattle.sheet.specs.Text.{bytes}
-use Rattle.verdict.specs.declared.Excited.{Excited}
-use Rattle.verdict.specs.declared.Excited.the-variants.{Value, Refused as NoValue}
-use Rattle.verdict.specs.Excited.{excitedOf}
+use Rattle.soundness.specs.declared.Excited.{Excited}
+use Rattle.soundness.specs.declared.Excited.the-variants.{Value, Refused as NoValue}
+use Rattle.soundness.specs.Excited.{excitedOf}
 use Rattle.settlements.specs.Settle.{settleOf}
 use Rattle.demands.specs.Nets.{worked, norGate, threeNands, norLatch}
 

@@ -11,7 +11,7 @@ use Rattle.sheet.specs.Rows.{byRows}
 use Rattle.sheet.specs.Writing.{writeSheet}
 use Rattle.sheet.specs.Text.{bytes, text}
 use Rattle.sheet.proofs.Sheets.{open-all, workedSheet}
-use Rattle.verdict.specs.Verdict.{verdictRows, verdictOf}
+use Rattle.soundness.specs.Verdict.{verdictRows, verdictOf}
 use Rattle.settlements.specs.Settle.{written, settleUnder}
 use Rattle.settlements.specs.Batch.{jobCount, pieces, jobRows, jobSettlement, runJobs, batchRows, batchOf}
 use Rattle.output.specs.Text.{vectorText, jobText, jobTexts}

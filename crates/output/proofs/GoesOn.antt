@@ -18,7 +18,7 @@ use Rattle.sheet.specs.Reading.{readSheet}
 use Rattle.sheet.specs.Valid.{valid}
 use Rattle.sheet.proofs.RowLaws.{when-none}
 use Rattle.sheet.proofs.ReadLaws.{read-valid}
-use Rattle.verdict.specs.Verdict.{verdictRows, verdictOf}
+use Rattle.soundness.specs.Verdict.{verdictRows, verdictOf}
 use Rattle.settlements.specs.Batch.{jobCount, jobWidth, answerWidth, Batch, runJobs, batchRows}
 use Rattle.settlements.proofs.BatchLaws.{batch-accepts, batch-zero}
 use Rattle.settlements.proofs.PieceLaws.{jobsOf}

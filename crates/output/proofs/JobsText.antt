@@ -14,7 +14,7 @@ use Rattle.net.specs.Graph.{keyCount}
 use Rattle.net.proofs.Filling.{zeros}
 use Rattle.sheet.specs.Reading.{readSheet}
 use Rattle.sheet.proofs.Known.{valid-keys}
-use Rattle.verdict.specs.Verdict.{verdictOf}
+use Rattle.soundness.specs.Verdict.{verdictOf}
 use Rattle.settlements.specs.Batch.{jobCount, jobWidth, answerWidth, Buffers, runJobs}
 use Rattle.settlements.proofs.BatchLaws.{length-pieces}
 use Rattle.settlements.proofs.PieceLaws.{jobsOf}

@@ -10,7 +10,7 @@ use Rattle.sheet.specs.Limits.{lineWidth, lineEnd}
 use Rattle.sheet.specs.Line.{writeNumber}
 use Rattle.sheet.specs.declared.Answer.{Answer}
 use Rattle.sheet.specs.Reading.{readSheet}
-use Rattle.verdict.specs.Verdict.{verdictOf}
+use Rattle.soundness.specs.Verdict.{verdictOf}
 use Rattle.settlements.specs.Batch.{jobCount, jobWidth, answerWidth, Batch, batchOf}
 use Rattle.output.specs.declared.Judged.{Judged}
 use Rattle.output.specs.Limits.{mostJobs}

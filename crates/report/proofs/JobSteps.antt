@@ -12,7 +12,7 @@ use Rattle.net.specs.Limits.{mostKeyNodes}
 use Rattle.net.proofs.Filling.{zeros, zeros-part}
 use Rattle.sheet.specs.declared.Answer.{Answer}
 use Rattle.troubles.proofs.FitLaws.{valid-fit}
-use Rattle.verdict.specs.Verdict.{verdictOf}
+use Rattle.soundness.specs.Verdict.{verdictOf}
 use Rattle.settlements.specs.Batch.{answerWidth, Batch, batched, batchOf}
 use Rattle.output.specs.declared.Written.the-variants.{Bytes}
 use Rattle.output.specs.Limits.{pieceJobs, jobBytes, pieceBytes}

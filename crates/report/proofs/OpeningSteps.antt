@@ -9,7 +9,7 @@ use Rattle.net.specs.Graph.{keyCount}
 use Rattle.sheet.specs.declared.Answer.{Answer}
 use Rattle.sheet.specs.declared.Reading.{Reading}
 use Rattle.sheet.specs.Reading.{readSheet}
-use Rattle.verdict.specs.Verdict.{verdictOf}
+use Rattle.soundness.specs.Verdict.{verdictOf}
 use Rattle.output.specs.declared.Judged.{Judged}
 use Rattle.output.specs.declared.Written.the-variants.{Short, Bytes}
 use Rattle.output.specs.Limits.{openingBytes}

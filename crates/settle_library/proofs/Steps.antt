@@ -8,11 +8,11 @@ use Rattle.net.specs.Graph.{keyCount}
 use Rattle.excitations.specs.Fit.{Fit}
 use Rattle.sheet.specs.declared.Reading.{Reading}
 use Rattle.sheet.specs.Reading.{readSheet}
+use Rattle.sheet.proofs.Outcome.{valid-at-zero}
 use Rattle.troubles.proofs.FitLaws.{valid-fit}
 use Rattle.settlements.specs.Batch.{Batch, batched, batchOf}
 use Rattle.output.specs.declared.Written.{Written}
 use Rattle.output.specs.Calls.{report, openingOf, pieceOf}
-use Rattle.report.proofs.Accepted.{net-valid}
 use Rattle.settle_library.specs.Calls.{sheetBatch, sheetBatchOf, Told, numbersOf, textCall, openingCallOf, pieceCallOf}
 
 -- a batch, by the reader's answer
@@ -27,7 +27,7 @@ module _ (sheet jobs results answers : List ℕ) (r : Reading) (read : r ≡ rea
   batch-run e batch keys = rw (← read, eq-eqb (r .answer .number) 0 e, batch, keys)
 
 pub net-fit : (sheet : List ℕ) (r : Reading) → r ≡ readSheet sheet → r .answer .number ≡ 0 → Fit (r .net)
-net-fit sheet r read e = valid-fit (r .net) (net-valid sheet r read e)
+net-fit sheet r read e = valid-fit (r .net) (valid-at-zero sheet r read e)
 
 -- a text, by what the report's call wrote
 module _ {wrote : Written} {after : List ℕ} {t : Told} (numbers : t ≡ numbersOf wrote) where

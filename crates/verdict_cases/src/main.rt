@@ -13,7 +13,7 @@ use lines::fields;
 use net::Net;
 use sheet::Answer;
 use sheet::Sheet;
-use verdict::Excited;
+use soundness::Excited;
 
 // Where the parts of a case stand, counted from its kind, which is one byte.
 struct Case;

@@ -12,7 +12,7 @@ use Rattle.net.proofs.TableLaws.{storage-row}
 use Rattle.excitations.specs.Fit.{Fit}
 use Rattle.sheet.specs.Valid.{valid}
 use Rattle.troubles.proofs.FitLaws.{valid-fit}
-use Rattle.verdict.proofs.ExcitedSteps.{bad-record, bad-input, bad-key-state, no-storage, all-fit}
+use Rattle.soundness.proofs.ExcitedSteps.{bad-record, bad-input, bad-key-state, no-storage, all-fit}
 use Rattle.verdict.proofs.excitation.Statement.{statement}
 use Rattle.verdict.proofs.excitation.Tie as tie
 

@@ -7,7 +7,7 @@ use Rattle.net.proofs.TableLaws.{storage-row, prepared}
 use Rattle.lanes.specs.Lanes.{assignments}
 use Rattle.states.specs.Weights.{Small}
 use Rattle.states.proofs.WeightLaws.{weights-small}
-use Rattle.verdict.proofs.OneLaws.{index-below, value-read}
+use Rattle.soundness.proofs.OneLaws.{index-below, value-read}
 use Rattle.verdict.proofs.one.value.Statement.{statement}
 use Rattle.verdict.proofs.one.value.Tie as tie
 

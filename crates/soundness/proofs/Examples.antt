@@ -6,9 +6,9 @@ use Rattle.net.proofs.Concrete.{vertex, edge, net}
 use Rattle.sheet.specs.Rows.{answer, byRows}
 use Rattle.sheet.specs.Record.{emptyNet}
 use Rattle.sheet.proofs.Sheets.{open-all, workedNet}
-use Rattle.verdict.specs.declared.Excited.the-variants.{Value, Refused}
-use Rattle.verdict.specs.Excited.{excitationRows, excitedOf}
-use Rattle.verdict.specs.Verdict.{verdictRows, verdictOf}
+use Rattle.soundness.specs.declared.Excited.the-variants.{Value, Refused}
+use Rattle.soundness.specs.Excited.{excitationRows, excitedOf}
+use Rattle.soundness.specs.Verdict.{verdictRows, verdictOf}
 
 opened : Unit {0}
 unfolding open-all byRows excitationRows excitedOf verdictRows verdictOf workedNet

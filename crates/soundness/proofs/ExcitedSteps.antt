@@ -8,8 +8,8 @@ use Rattle.net.specs.Excitation.{excitation}
 use Rattle.net.specs.Network.{isInputState, isKeyState}
 use Rattle.sheet.specs.Rows.{firstRow, byRows}
 use Rattle.sheet.specs.Valid.{valid}
-use Rattle.verdict.specs.declared.Excited.the-variants.{Value, Refused}
-use Rattle.verdict.specs.Excited.{excitationRows, excitedOf}
+use Rattle.soundness.specs.declared.Excited.the-variants.{Value, Refused}
+use Rattle.soundness.specs.Excited.{excitationRows, excitedOf}
 
 module _ (N : Net) (a q y : ℕ) where
   pub bad-record : valid N ≡ false → Refused 41 ≡ excitedOf N a q y

@@ -8,8 +8,8 @@ use Rattle.net.specs.Excitation.{excitation}
 use Rattle.net.specs.Network.{isInputState, isKeyState}
 use Rattle.sheet.specs.Rows.{Row, row, when, byRows}
 use Rattle.sheet.specs.Valid.{valid}
-use Rattle.verdict.specs.declared.Excited.{Excited}
-use Rattle.verdict.specs.declared.Excited.the-variants.{Value, Refused}
+use Rattle.soundness.specs.declared.Excited.{Excited}
+use Rattle.soundness.specs.declared.Excited.the-variants.{Value, Refused}
 
 -- record; input state not below 2 ^ L; key state not below 2 ^ h; vertex not storage
 unfoldable pub excitationRows : Net → ℕ → ℕ → ℕ → List Row

@@ -15,8 +15,8 @@ use Rattle.sheet.specs.declared.Answer.{Answer}
 use Rattle.sheet.specs.Rows.{answer, Row, firstRow, First, NoRow}
 use Rattle.sheet.specs.Valid.{valid}
 use Rattle.sheet.proofs.RowLaws.{RowsAnswer, nothing, found, rows-answer, positive, positive-first, first-none, first-some, by-rows-none, by-rows-some}
-use Rattle.verdict.specs.declared.Excited.the-variants.{Value, Refused}
-use Rattle.verdict.specs.Excited.{excitationRows, excitedOf, excitedNumber}
+use Rattle.soundness.specs.declared.Excited.the-variants.{Value, Refused}
+use Rattle.soundness.specs.Excited.{excitationRows, excitedOf, excitedNumber}
 
 module _ (N : Net) (a q y : ℕ) where
   abbrev rows : List Row

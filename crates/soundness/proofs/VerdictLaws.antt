@@ -15,7 +15,7 @@ use Rattle.sheet.specs.declared.Answer.{Answer}
 use Rattle.sheet.specs.Rows.{row, when, answer, answered, firstRow, First, NoRow}
 use Rattle.sheet.specs.Valid.{valid}
 use Rattle.sheet.proofs.RowLaws.{positive, answered-zero, answered-some, when-none, when-some}
-use Rattle.verdict.specs.Verdict.{verdictRows, verdictOf}
+use Rattle.soundness.specs.Verdict.{verdictRows, verdictOf}
 
 module _ (N : Net) where
   -- ---- by rows
