@@ -4,6 +4,7 @@ pub mod ReadLines
 pub mod JobsText
 pub mod Pieces
 pub mod Placed
+pub mod FirstLine
 pub mod PieceSteps
 pub mod Characters
 pub mod Stored

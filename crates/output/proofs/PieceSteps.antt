@@ -16,14 +16,14 @@ use Rattle.output.proofs.Placed.{put-short, put-none}
 module _ (sheet : List ℕ) (n : ℕ) (lines out : List ℕ) where
   pub piece-short : length out < pieceBytes → report Short out ≡ pieceOf sheet n lines out
   unfolding pieceOf
-  piece-short h = put-short pieceBytes (jobsText sheet n (readLines n lines)) out h
+  piece-short h = put-short Bytes pieceBytes (jobsText sheet n (readLines n lines)) out h
 
   module _ (r : Reading) (read : r ≡ readSheet sheet) where
     pub piece-refused : pieceBytes ≤ length out → r .answer .number ≢ 0 → report (Bytes 0) out ≡ pieceOf sheet n lines out
     unfolding pieceOf jobsText
     piece-refused room ne = put-none pieceBytes (jobsText sheet n (readLines n lines)) out room (rw (← read, ne-eqb (r .answer .number) 0 ne))
 
-    pub piece-read : r .answer .number ≡ 0 → {part : List ℕ} → part ≡ readLines n lines → {w : Report} → w ≡ put pieceBytes (netText (r .net) n part) out
+    pub piece-read : r .answer .number ≡ 0 → {part : List ℕ} → part ≡ readLines n lines → {w : Report} → w ≡ put Bytes pieceBytes (netText (r .net) n part) out
         → w ≡ pieceOf sheet n lines out
     unfolding pieceOf jobsText
     piece-read e readable same = same ∙ rw (readable, ← read, eq-eqb (r .answer .number) 0 e)

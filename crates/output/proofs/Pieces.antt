@@ -19,6 +19,7 @@ use Rattle.settlements.proofs.BatchLaws.{length-pieces}
 use Rattle.settlements.proofs.Parts.{drop-take}
 use Rattle.settlements.proofs.PieceLaws.{jobsOf}
 use Rattle.settlements.proofs.RunLaws.{run-append, count-whole, count-append, pieces-append}
+use Rattle.output.specs.declared.Written.the-variants.{Bytes}
 use Rattle.output.specs.Limits.{mostJobs, pieceJobs, pieceBytes}
 use Rattle.output.specs.Text.{jobText, jobTexts}
 use Rattle.output.specs.Output.{openingText, jobsText, outputOf}
@@ -152,7 +153,7 @@ unfolding pieceText readLines
 piece-none sheet jobs n past = rw (drop-of-length-le jobs {i = (n - 1) * lineWidth} past, take-nil) (jobs-none sheet n)
 
 -- the call for a piece, handed the bytes from its first job on, writes that piece's text
-pub piece-call : (sheet jobs : List ℕ) (n : ℕ) (out : List ℕ) → pieceOf sheet n (drop ((n - 1) * lineWidth) jobs) out ≡ put pieceBytes (pieceText sheet n jobs) out
+pub piece-call : (sheet jobs : List ℕ) (n : ℕ) (out : List ℕ) → pieceOf sheet n (drop ((n - 1) * lineWidth) jobs) out ≡ put Bytes pieceBytes (pieceText sheet n jobs) out
 unfolding pieceOf pieceText
 piece-call sheet jobs n out = refl
 

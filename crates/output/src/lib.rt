@@ -3,10 +3,11 @@ use net::Net;
 use sheet::Answer;
 use sheet::Sheet;
 
-// What a call wrote: so many bytes, or none because the buffer is shorter than the call asks for.
+// What a call wrote: so many bytes; so many, and nothing is to follow; or none because the buffer is shorter than the call asks for.
 pub enum Written {
     Short,
     Bytes(u32),
+    Last(u32),
 }
 
 // What a sheet is judged to be: the reader's answer or the verdict, and h.

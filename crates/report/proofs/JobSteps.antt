@@ -58,7 +58,7 @@ module _ {N : Net} {h count first : ℕ} {lines results answers out : List ℕ} 
     number : a .number ≡ batchFor N lines .answer .number
     number = ap (λ (b : Batch). b .answer .number) whole
 
-    pub jobs-refused : a .number ≢ 0 → report (Bytes 0) out ≡ put pieceBytes (netText N first lines) out
+    pub jobs-refused : a .number ≢ 0 → report (Bytes 0) out ≡ put Bytes pieceBytes (netText N first lines) out
     unfolding netText
     jobs-refused ne =
         put-none pieceBytes (netText N first lines) out (ready .text-room)
@@ -70,7 +70,7 @@ module _ {N : Net} {h count first : ℕ} {lines results answers out : List ℕ} 
       jobs-text = rw (runs-iff N .1 (batch-iff N lines .0 (sym number ∙ e)), ← whole, ready .keys, ready .counted)
 
       pub jobs-written : length r ≡ length results
-          → report (Bytes (count * jobBytes h)) (jobTexts h count first r s ++ drop (count * jobBytes h) out) ≡ put pieceBytes (netText N first lines) out
+          → report (Bytes (count * jobBytes h)) (jobTexts h count first r s ++ drop (count * jobBytes h) out) ≡ put Bytes pieceBytes (netText N first lines) out
       jobs-written kept =
           rw jobs-text
-          (put-whole pieceBytes (jobTexts h count first r s) out (ready .text-room) (length-jobs h count first r s (omega (arith, kept, result-size))))
+          (put-whole Bytes pieceBytes (jobTexts h count first r s) out (ready .text-room) (length-jobs h count first r s (omega (arith, kept, result-size))))

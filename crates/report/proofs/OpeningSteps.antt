@@ -11,10 +11,11 @@ use Rattle.sheet.specs.declared.Reading.{Reading}
 use Rattle.sheet.specs.Reading.{readSheet}
 use Rattle.soundness.specs.Verdict.{verdictOf}
 use Rattle.output.specs.declared.Judged.{Judged}
-use Rattle.output.specs.declared.Written.the-variants.{Short, Bytes}
+use Rattle.output.specs.declared.Written.{Written}
+use Rattle.output.specs.declared.Written.the-variants.{Short}
 use Rattle.output.specs.Limits.{openingBytes}
 use Rattle.output.specs.Output.{firstLine, judged, judgedOf, openingText}
-use Rattle.output.specs.Calls.{report, openingOf}
+use Rattle.output.specs.Calls.{report, openingSays, openingOf}
 use Rattle.output.proofs.Lengths.{length-first}
 use Rattle.output.proofs.Placed.{put-short, put-whole}
 
@@ -30,10 +31,10 @@ module _ (sheet : List ℕ) (r : Reading) (read : r ≡ readSheet sheet) where
 module _ (sheet out : List ℕ) where
   pub opening-short : length out < openingBytes → report Short out ≡ openingOf sheet out
   unfolding openingOf
-  opening-short h = put-short openingBytes (openingText sheet) out h
+  opening-short h = put-short (openingSays (judgedOf sheet .answer .number)) openingBytes (openingText sheet) out h
 
   pub opening-judged : openingBytes ≤ length out → {j : Judged} → j ≡ judgedOf sheet → {text : List ℕ} → text ≡ firstLine (j .answer) (j .keys)
-      → report (Bytes openingBytes) (text ++ drop openingBytes out) ≡ openingOf sheet out
+      → {w : Written} → w ≡ openingSays (j .answer .number) openingBytes → report w (text ++ drop openingBytes out) ≡ openingOf sheet out
   unfolding openingOf openingText
-  opening-judged room {j = j} is same =
-      rw (same, ← is) (put-whole openingBytes (firstLine (j .answer) (j .keys)) out room (length-first (j .answer) (j .keys)))
+  opening-judged room {j = j} is same says =
+      rw (says, same, ← is) (put-whole (openingSays (j .answer .number)) openingBytes (firstLine (j .answer) (j .keys)) out room (length-first (j .answer) (j .keys)))

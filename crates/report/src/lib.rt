@@ -6,9 +6,11 @@ use graph::tables;
 use output::Judged;
 use output::Report;
 use output::Written;
+use sheet::Answer;
 ghost use mathlib.Core.Path.{_≡_};
-ghost use Rattle.output.specs.Output.{judgedOf};
-ghost use Rattle.output.specs.Calls.{report, openingOf, pieceOf};
+ghost use Rattle.output.specs.Limits.{openingBytes};
+ghost use Rattle.output.specs.Output.{judgedOf, goesOn};
+ghost use Rattle.output.specs.Calls.{report, openingSays, openingOf, pieceOf};
 
 // What a sheet is judged to be: the reader's number, or else the verdict with h.
 pub fn judge(sheet: &[u8]) -> Judged
@@ -31,6 +33,28 @@ pub fn judge(sheet: &[u8]) -> Judged
     }
 }
 
+// Are the jobs run after a number?
+fn goes_on(number: u8) -> bool
+    ensures { λ r. ⌜ r ≡ goesOn number ⌝ }
+{
+    match number {
+        0 => true,
+        Answer::BREAKS_C2 => true,
+        Answer::BREAKS_C3 => true,
+        _ => false,
+    }
+}
+
+// What is said of the first line: after some numbers nothing follows it.
+fn said(number: u8) -> Written
+    ensures { λ w. ⌜ w ≡ openingSays number openingBytes ⌝ }
+{
+    if goes_on(number) {
+        return Written::Bytes(Report::OPENING_BYTES as u32);
+    }
+    Written::Last(Report::OPENING_BYTES as u32)
+}
+
 // The first line of a sheet.
 pub fn opening<'a, 'b>(sheet: &'a [u8], out: &'b mut [u8]) -> Written
     ensures { λ w. ⌜ report w (now (out .exit)) ≡ openingOf (now (sheet .entry)) (now (out .entry)) ⌝ }
@@ -46,7 +70,7 @@ pub fn opening<'a, 'b>(sheet: &'a [u8], out: &'b mut [u8]) -> Written
         answer.place,
         judged.keys as usize,
     );
-    Written::Bytes(Report::OPENING_BYTES as u32)
+    said(answer.number)
 }
 
 // The lines of the jobs of a piece whose first job has this number.

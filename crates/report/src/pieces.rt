@@ -73,7 +73,7 @@ fn run<'a, 'b>(
     out: &'b mut [u8],
 ) -> u32
     requires { ⌜ Ready net h count first (now lines) (now results) (now answers) (now out) ⌝ }
-    ensures { λ n. ⌜ report (Bytes n) (now (out .exit)) ≡ put pieceBytes (netText net first (now (lines .entry))) (now (out .entry)) ⌝ }
+    ensures { λ n. ⌜ report (Bytes n) (now (out .exit)) ≡ put Bytes pieceBytes (netText net first (now (lines .entry))) (now (out .entry)) ⌝ }
 {
     let answer = settling::batch(net, lines, results, answers);
     if answer.number != 0 {
@@ -86,7 +86,7 @@ fn run<'a, 'b>(
 // Writes the text of the jobs of lines that are read, and answers how many bytes it has.
 pub(crate) fn write<'a, 'b>(net: Net, first: u32, lines: &'a [u8], out: &'b mut [u8]) -> u32
     requires { ⌜ (valid net ≡ true) × (length (now lines) ≤ pieceJobs * lineWidth) × (pieceBytes ≤ length (now out)) ⌝ }
-    ensures { λ n. ⌜ report (Bytes n) (now (out .exit)) ≡ put pieceBytes (netText net first (now (lines .entry))) (now (out .entry)) ⌝ }
+    ensures { λ n. ⌜ report (Bytes n) (now (out .exit)) ≡ put Bytes pieceBytes (netText net first (now (lines .entry))) (now (out .entry)) ⌝ }
 {
     let count = job_tests::job_count(lines);
     let h = tables::key_count(net);

@@ -46,6 +46,7 @@ fn written_bytes(written: Written, out: &[u8]) -> usize
 {
     match written {
         Written::Bytes(n) => io::count(n as isize, out),
+        Written::Last(n) => io::count(n as isize, out),
         Written::Short => io::count(0, out),
     }
 }
@@ -60,11 +61,30 @@ fn read_file(name: &[u8], buffer: &mut [u8]) -> usize
     n
 }
 
-fn write_opening(sheet: &[u8]) {
+// Is anything to follow what a call wrote?
+fn goes_on(written: Written) -> bool {
+    match written {
+        Written::Bytes(_) => true,
+        Written::Last(_) => false,
+        Written::Short => false,
+    }
+}
+
+// Writes a text, and says so on standard error where that fails.
+fn write_text(text: &[u8]) -> bool {
+    let is_written = io::write_all(STDOUT_FILENO, text);
+    if !is_written {
+        os::fail(b"settle: output");
+    }
+    is_written
+}
+
+// Writes the first line. Says whether the jobs are to be run.
+fn write_opening(sheet: &[u8]) -> bool {
     let mut out = opening_buffer();
     let written = report::opening(sheet, &mut out);
     let n = written_bytes(written, &out);
-    io::write_all(STDOUT_FILENO, &out[..n]);
+    write_text(&out[..n]) && goes_on(written)
 }
 
 // Reads the next lines of the jobs and writes the text of a piece. Says whether more lines may follow.
@@ -77,11 +97,7 @@ fn write_piece(sheet: &[u8], jobs: i32, first: u32) -> bool {
     let mut out = piece_buffer();
     let written = report::piece(sheet, first, &lines[..size], &mut out);
     let n = written_bytes(written, &out);
-    io::write_all(STDOUT_FILENO, &out[..n]);
-    if n == 0 {
-        return false;
-    }
-    size == LINES_BYTES
+    write_text(&out[..n]) && size == LINES_BYTES
 }
 
 fn write_jobs(sheet: &[u8], jobs: i32) {
@@ -94,8 +110,9 @@ fn write_jobs(sheet: &[u8], jobs: i32) {
 fn main() {
     let mut buffer = sheet_buffer();
     let size = read_file(b"net", &mut buffer);
-    write_opening(&buffer[..size]);
-    let jobs = os::open_read(b"jobs");
-    write_jobs(&buffer[..size], jobs);
-    libc::close(jobs);
+    if write_opening(&buffer[..size]) {
+        let jobs = os::open_read(b"jobs");
+        write_jobs(&buffer[..size], jobs);
+        libc::close(jobs);
+    }
 }

@@ -7,7 +7,7 @@ use Rattle.net.specs.Graph.{keyCount}
 use Rattle.sheet.specs.Reading.{readSheet}
 use Rattle.settlements.specs.Batch.{Batch, batched, batchOf}
 use Rattle.output.specs.declared.Written.{Written}
-use Rattle.output.specs.declared.Written.the-variants.{Short, Bytes}
+use Rattle.output.specs.declared.Written.the-variants.{Short, Bytes, Last}
 use Rattle.output.specs.Calls.{Report, openingOf, pieceOf}
 
 -- a batch with its answer and buffers, and h
@@ -37,6 +37,7 @@ told n written = record { number = n; written = written }
 abbrev pub numbersOf : Written → Told
 numbersOf Short = told 45 0
 numbersOf (Bytes n) = told 0 n
+numbersOf (Last n) = told 0 n
 
 -- the numbers of such a call, and its buffer
 pub record TextCall : Type 0 where

@@ -57,6 +57,10 @@ fn tell(wrote: Written, written: &mut u32) -> u32
             *written = n;
             0
         }
+        Written::Last(n) => {
+            *written = n;
+            0
+        }
         Written::Short => {
             *written = 0;
             Answer::SHORT_BUFFER as u32

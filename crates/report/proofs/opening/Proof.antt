@@ -27,16 +27,16 @@ cast-write-first-line c = search needs
 write-first-line-requires : tie.Need-write-first-line-requires
 write-first-line-requires c κs = search needs
 
-cast-t12 : tie.Need-cast-t12
-cast-t12 c = search needs
+said-requires : tie.Need-said-requires
+said-requires c κs = search needs
 
 same-length : tie.Need-same-length
 same-length c = search needs
 
 returns-2 : tie.Need-returns-2
 returns-2 c =
-    let w = c .before .before in
-    opening-judged _ _ (omega arith) (w .before .before .before .before .judge .ensures) (w .write-first-line .ensures)
+    let w = c .before .before .before in
+    opening-judged _ _ (omega arith) (w .before .before .before .before .judge .ensures) (w .write-first-line .ensures) (c .said .ensures)
 
 pub opening-spec : {M : Type 1} → statement M
 opening-spec =
@@ -49,6 +49,6 @@ opening-spec =
     part-write-first-line-end
     cast-write-first-line
     write-first-line-requires
-    cast-t12
+    said-requires
     same-length
     returns-2)
