@@ -124,8 +124,16 @@ def unstable_fights():
     return rest(net, keys)
 
 
-def chain(rising):
-    """92 storage vertices in series between 0 and a key node; the edge lines run from the key node's end, or from the other."""
+def zigzag(links):
+    """Links 0, 2, 1, 4, 3 and so on: whichever way a sweep runs, it gets on by a link or two."""
+    swapped = list(links)
+    for i in range(1, len(links) - 1, 2):
+        swapped[i], swapped[i + 1] = links[i + 1], links[i]
+    return swapped
+
+
+def chain(order):
+    """92 storage vertices in series between 0 and a key node; the edge lines stand in the order into which `order` puts the links, counted from 0's end."""
     net = Net(8)
     inner = [net.vertex(1) for _ in range(92)]
     y, z = net.vertex(2), net.vertex(2)
@@ -133,7 +141,7 @@ def chain(rising):
     for i, v in enumerate(inner + [y]):
         links.append([(at, v, N, letter(i))] + ([(at, v, P_PRIMED, letter(i))] if i < 89 else []))
         at = v
-    for link in links if rising else links[::-1]:
+    for link in order(links):
         net.edges.extend(link)
     net.gates[y] = [[letter(j) for j in range(8)]]
     for j in range(8):
@@ -158,7 +166,8 @@ NETS = {
     "limits": limits(),
     "stable": stable(),
     "unstable fights": unstable_fights(),
-    "chain": chain(False),
-    "chain, other order": chain(True),
+    "chain": chain(lambda links: links[::-1]),
+    "chain, other order": chain(list),
+    "chain, zigzag": chain(zigzag),
     "key chain": key_chain(),
 }
