@@ -15,9 +15,9 @@ import tempfile
 
 HERE = pathlib.Path(__file__).resolve().parent
 sys.path[:0] = [str(HERE), str(HERE.parent / "tests")]
+from case_files import laid_out
 from jobs import jobs
 from nets import NETS
-from sheets import field, large
 
 PROGRAMS = HERE.parent / "target" / "bin"
 MOST_JOBS = 9999
@@ -26,14 +26,9 @@ WITH_JOBS = ("small", "limits", "chain", "chain, other order", "key chain")
 LINE = 21
 
 
-def verdict_case(kind, sheet=b""):
-    """A case as tests/verdict_cases.py lays it out: no note, and all numbers 0."""
-    return kind + field(0) * 10 + field(len(sheet)) + sheet
-
-
-def settle_case(kind, data=b"", asked=(0, 0, 0), sizes=(0, 0)):
-    """A case as tests/settle_cases.py lays it out, without a note."""
-    return kind + field(0) + b"".join(large(n) for n in (*asked, *sizes, len(data))) + data
+def case(kind, data=b"", numbers=()):
+    """A case without a note."""
+    return laid_out(kind, numbers, data, b"")
 
 
 def counted(program, **place):
@@ -81,7 +76,7 @@ def verdicts():
     """The test program reads the sheet anew for each case, so a verdict is what its case takes more than a case that only reads."""
     print("\n%-20s %8s %8s %16s %14s" % ("net", "vertices", "edges", "reading", "verdict"))
     for name, net in NETS.items():
-        reading, verdict = verdict_case(b"N", net.sheet()), verdict_case(b"V")
+        reading, verdict = case(b"N", net.sheet()), case(b"V")
         once, lines = count("verdict_cases", reading + verdict)
         again, _ = count("verdict_cases", reading + reading + verdict)
         twice, _ = count("verdict_cases", reading + verdict + verdict)
@@ -89,12 +84,12 @@ def verdicts():
 
 
 def batch(kind, lines, h):
-    return settle_case(kind, lines, sizes=(len(lines) // LINE * 2 * h, len(lines) // LINE * 3))
+    return case(kind, lines, (0, 0, 0, len(lines) // LINE * 2 * h, len(lines) // LINE * 3))
 
 
-def added(case, before):
+def added(last, before):
     """What a case adds after some others."""
-    return count("settle_cases", before + case)[0] - count("settle_cases", before)[0]
+    return count("settle_cases", before + last)[0] - count("settle_cases", before)[0]
 
 
 def settlings():
@@ -102,15 +97,15 @@ def settlings():
     for each case and fills the buffers, so both costs are taken off: the second is that of a batch that is refused at once."""
     print("\n%-20s %16s %14s" % ("net", "one settling", "no jobs") + "".join("%17s" % f"a job of {n:,}" for n in COUNTS))
     none = batch(b"T", b"", 0)
-    filling = added(none, settle_case(b"N") + none)
+    filling = added(none, case(b"N") + none)
     for name in WITH_JOBS:
         net, lines = NETS[name], jobs(NETS[name], COUNTS[-1])
         h = len(net.key_nodes())
-        sheet = settle_case(b"N", net.sheet())
+        sheet = case(b"N", net.sheet())
         _, (_, shown) = count("settle_cases", sheet + batch(b"B", lines[:LINE * COUNTS[0]], h))
         answers = [int(shown.rstrip()[-4 * n:][:4]) for n in range(3 * COUNTS[0], 0, -3)]
         assert not any(answers), "a job is refused"
-        one = settle_case(b"S", asked=[int(lines[4 * i:4 * i + 4]) for i in (1, 2, 3)], sizes=(h, h))
+        one = case(b"S", numbers=[int(lines[4 * i:4 * i + 4]) for i in (1, 2, 3)] + [h, h])
         reading = added(sheet, sheet + none)
         settling = added(one, sheet + none) - reading
         preparing = added(none, sheet + none) - reading - filling

@@ -1,16 +1,29 @@
-"""How the generators store the cases of their test programs."""
+"""How the generators store the cases of their test programs.
+
+A case in the input: its kind (one byte), the length of its note in four columns, then five numbers and the length of its data in three fields of
+four columns each, four decimal digits to a field; then the note and the data. Numbers that a case does not need are 0.
+"""
 import pathlib
+from sheets import field, large
+
+NUMBERS = 5
+
+# The test programs read no more bytes.
+MOST_INPUT = 256000
 
 
-def store(program, cases, layout, most):
-    """Writes the input and the expected output of a program: for each case what `layout` makes of it, and its answer with its note on a line. The
-    program reads no more than `most` bytes."""
+def laid_out(kind, numbers, data, text):
+    return kind + field(len(text)) + b"".join(large(n) for n in (*numbers, *[0] * NUMBERS)[:NUMBERS]) + large(len(data)) + text + data
+
+
+def store(program, cases):
+    """Writes the input and the expected output of a program: each case by its kind, its numbers and its data, and its answer before its note."""
     given, wanted = b"", b""
     for kind, numbers, data, answer, note in cases:
         text = note.encode()
-        given += layout(kind, numbers, data, text)
+        given += laid_out(kind, numbers, data, text)
         wanted += answer + b" " + text + b"\n"
-    assert len(given) <= most, "the program reads no more than its buffer holds"
+    assert len(given) <= MOST_INPUT, "a test program reads no more than its buffer holds"
     here = pathlib.Path(__file__).parent.parent / "crates" / program
     here.mkdir(exist_ok=True)
     (here / "stdin").write_bytes(given)

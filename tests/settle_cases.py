@@ -12,9 +12,8 @@ The kinds of cases, and what the program prints for each before the note:
   T  a batch: number and place alone, for the benchmark.
 A buffer holds bytes 9 before the call, so that a 9 is a byte left alone. The byte of an unknown is printed as X.
 
-A case in the input: its kind (one byte), the length of its note in four columns, then six numbers in three fields of four columns each, four
-decimal digits to a field: the old input state, the new one, the start, the size of the first buffer, the size of the second, the length of its data; then
-the note and the data, a sheet or jobs. States are written here as in the papers, the first letter or key node first, or as numbers where they are
+The five numbers of a case are the old input state, the new one, the start, the size of the first buffer and the size of the second; its data are a
+sheet or jobs. States are written here as in the papers, the first letter or key node first, or as numbers where they are
 no states. The two bench examples on the NOR gate's inner vertex ask for an excitation, and stand in verdict_cases.py.
 """
 import settle_model
@@ -35,7 +34,7 @@ def job(old, new, start):
     return line(4, number(old), number(new), number(start), 0)
 
 
-def case(kind, answer, note, numbers=(0, 0, 0, 0, 0), data=b""):
+def case(kind, answer, note, numbers=(), data=b""):
     CASES.append((kind, numbers, data, answer, note))
 
 
@@ -402,5 +401,4 @@ refuses_all(41, b"", "41 for an empty batch too", (1, 1))
 refuses_all(41, job(0, 0, 0), "41 with room enough", (2, 3))
 
 if __name__ == "__main__":
-    store("settle_cases", CASES, lambda kind, numbers, data, text: (
-        kind + field(len(text)) + b"".join(large(n) for n in numbers) + large(len(data)) + text + data), 256048)
+    store("settle_cases", CASES)

@@ -4,8 +4,8 @@
 Each case has a note: the row or sentence of document 01 that its answer follows from. Running this file writes the input and the expected
 output of the test program `sheet_cases`. The expected numbers are worked out here by hand, never taken from a run.
 
-A case in the input: its kind (one byte), the length of its note in four columns, the note, a number in four columns (0 unless the case is one
-line of a sheet), the length of its bytes in four columns, the bytes. The program prints an answer and the note on a line for each.
+The kinds of cases: S a sheet, L one line of a sheet, whose number the case has, J a job line. The program prints an answer and the note on a line for
+each.
 """
 from case_files import store
 from sheets import field, line
@@ -56,15 +56,15 @@ CASES = []
 
 def read(number, place, note, data):
     """A sheet's number and place; an accepted record is a record, and the empty one that a refusal gives is none."""
-    CASES.append((b"S", 0, data, field(number) + field(place) + field(1 if number == 0 else 0), note))
+    CASES.append((b"S", (), data, field(number) + field(place) + field(1 if number == 0 else 0), note))
 
 
 def one_line(number, length, note, n, data):
-    CASES.append((b"L", n, data, field(number) + field(length), note))
+    CASES.append((b"L", (n,), data, field(number) + field(length), note))
 
 
 def job(answer, note, data):
-    CASES.append((b"J", 0, data, b"".join(field(n) for n in answer), note))
+    CASES.append((b"J", (), data, b"".join(field(n) for n in answer), note))
 
 
 read(0, 0, "the worked example is accepted", worked())
@@ -164,5 +164,4 @@ job((46, 0, 0, 0), "row 46: last field 1", line(4, 0, 1, 1, 1))
 job((46, 0, 0, 0), "row 46: a leading zero", b"   4  00   1   1   0\n")
 job((46, 0, 0, 0), "row 46: without byte 10", b"   4   0   1   1   0 ")
 
-store("sheet_cases", CASES, lambda kind, number, data, text: (
-    kind + field(len(text)) + text + field(number) + field(len(data)) + data), 65536)
+store("sheet_cases", CASES)

@@ -10,9 +10,7 @@ The kinds of cases, and what the program prints for each before the note:
   E  the excitation of one vertex: 0 and the value, or a number and 0;
   S  a state: the excitation of every vertex in order, one character each, a hyphen for an input vertex.
 
-A case in the input: its kind (one byte), the length of its note, the input state, the key state, the vertex, the length of its sheet, the note,
-the sheet. The lengths have four columns; the other three numbers have three fields of four columns each, four decimal digits to a field.
-The report's networks stand in sheets.py; the notes say which sentence of the report a sheet is made to satisfy.
+The numbers of a case are the input state, the key state and the vertex; its data are a sheet. The report's networks stand in sheets.py; the notes say which sentence of the report a sheet is made to satisfy.
 """
 from case_files import store
 from sheets import *
@@ -20,7 +18,7 @@ from sheets import *
 CASES = []
 
 
-def case(kind, answer, note, numbers=(0, 0, 0), data=b""):
+def case(kind, answer, note, numbers=(), data=b""):
     CASES.append((kind, numbers, data, answer, note))
 
 
@@ -37,7 +35,7 @@ def excitation(number, value, note, asked_input, asked_key, asked_vertex):
 
 
 def state(characters, note, asked_input, asked_key=0):
-    case(b"S", characters.encode(), note, (asked_input, asked_key, 0))
+    case(b"S", characters.encode(), note, (asked_input, asked_key))
 
 
 # The report's networks.
@@ -392,5 +390,4 @@ excitation(42, 0, "42 before 43 and 48", 4, 4, 0)
 excitation(42, 0, "42 before 48", 4, 0, 7)
 excitation(43, 0, "43 before 48", 0, 4, 0)
 
-store("verdict_cases", CASES, lambda kind, numbers, data, text: (
-    kind + field(len(text)) + b"".join(large(n) for n in numbers) + field(len(data)) + text + data), 65536)
+store("verdict_cases", CASES)

@@ -1,19 +1,20 @@
--- A part is there or not, and a field at a place reads as a number or not; beyond the input all numbers are 0, and no case stands there.
+-- A part is there or not, and a field at a place reads as a number or not; beyond the input all numbers are 0, and no case stands there. The next case
+-- stands later, and no later than the end.
 use Prim.Native.Nat.{ℕ, _+_, _-_, _*_, _≤_, _<_}
 use native.Mathlib.Omega.{arith}
 use mathlib.Core.Path.{_≡_}
 use mathlib.Core.List.{List, []}
 use mathlib.Core.Option.{Option}
-use lib.Dec.{eqb}
-use lib.ListN.{length, take, drop, getD, List·getD-eq-default}
-use borrow.Author.Tests.{le-leb, lt-leb}
+use lib.Dec.{ltb}
+use lib.ListN.{length, take, drop, List·getD-eq-default}
+use borrow.Author.Tests.{le-leb, lt-leb, le-ltb, ltb-true}
 use Rattle.ternary.proofs.Tests.{cond-by}
 use Rattle.sheet.specs.declared.Field.the-variants.{Number, Refused}
 use Rattle.sheet.specs.Limits.{fieldWidth}
 use Rattle.sheet.specs.Field.{readField, fieldAnswer}
 use Rattle.sheet.proofs.FieldSteps.{wrong-width}
 use Rattle.sheet.proofs.LineSteps.{number-of, refused-of, part}
-use Rattle.cases.specs.Input.{partOf, numberAt, threeFields, sheetKind, inForce}
+use Rattle.cases.specs.Input.{partOf, numberAt, threeFields, notePlace, noteSize, dataSize, nextOf, inForce}
 
 module _ (b : List ℕ) (at n : ℕ) where
   pub part-missing : length b < at + n → [] ≡ partOf b at n
@@ -47,11 +48,26 @@ module _ (b : List ℕ) (at : ℕ) where
   three-beyond h =
       rw (number-beyond b at (omega arith), number-beyond b (at + fieldWidth) (omega arith), number-beyond b (at + 2 * fieldWidth) (omega arith))
 
-  module _ (before : ℕ) where
-    pub in-force-beyond : length b ≤ at → before ≡ inForce b at before
-    unfolding inForce
-    in-force-beyond h = rw (List·getD-eq-default b 0 h)
+  pub in-force-beyond : (before : ℕ) → length b ≤ at → before ≡ inForce b at before
+  unfolding inForce
+  in-force-beyond before h = rw (List·getD-eq-default b 0 h)
 
-    pub in-force-within : at ≤ length b → before ≤ length b → inForce b at before ≤ length b
-    unfolding inForce
-    in-force-within h k = cond-by (λ i. i ≤ length b) (eqb (getD b at 0) sheetKind) (λ _. h) (λ _. k)
+  -- where the next case would stand, were there no end
+  abbrev after : ℕ
+  after = at + notePlace + noteSize b at + dataSize b at
+
+  pub next-beyond : length b < at → length b ≡ nextOf b at
+  unfolding nextOf
+  next-beyond h = rw (le-ltb after (length b) (omega arith))
+
+  next-later : at < length b → at < nextOf b at
+  unfolding nextOf
+  next-later h = cond-by (λ i. at < i) (ltb after (length b)) (λ _. omega arith) (λ _. h)
+
+  pub next-within : nextOf b at ≤ length b
+  unfolding nextOf
+  next-within = cond-by (λ i. i ≤ length b) (ltb after (length b)) (λ e. omega (arith, ltb-true after (length b) e)) (λ _. omega arith)
+
+  -- less is left of the input
+  pub next-less : at < length b → length b - nextOf b at < length b - at
+  next-less h = omega (arith, next-later h, next-within)

@@ -37,10 +37,40 @@ largest = 4294967295
 unfoldable pub largeAt : List ℕ → ℕ → ℕ
 largeAt b at = cond (ltb (threeFields b at) largest) (threeFields b at) largest
 
+-- where the parts of a case stand, counted from its kind, which is its first byte: the size of its note, five numbers, the size of its data, its note
+abbrev pub noteSizePlace : ℕ
+noteSizePlace = 1
+
+abbrev pub dataSizePlace : ℕ
+dataSizePlace = noteSizePlace + fieldWidth + 5 * (3 * fieldWidth)
+
+abbrev pub notePlace : ℕ
+notePlace = dataSizePlace + 3 * fieldWidth
+
+-- the sizes of the note and of the data of the case at a place
+abbrev pub noteSize : List ℕ → ℕ → ℕ
+noteSize b at = numberAt b (at + noteSizePlace)
+
+abbrev pub dataSize : List ℕ → ℕ → ℕ
+dataSize b at = largeAt b (at + dataSizePlace)
+
+-- its note, and its data, which come after the note
+unfoldable pub noteOf : List ℕ → ℕ → List ℕ
+noteOf b at = partOf b (at + notePlace) (noteSize b at)
+
+unfoldable pub dataOf : List ℕ → ℕ → List ℕ
+dataOf b at = partOf b (at + notePlace + noteSize b at) (dataSize b at)
+
+-- where the next case stands: after the data, and at the end at the latest
+unfoldable pub nextOf : List ℕ → ℕ → ℕ
+nextOf b at =
+    let next = at + notePlace + noteSize b at + dataSize b at in
+    cond (ltb next (length b)) next (length b)
+
 -- the kind of a case that brings a sheet: the letter N
 abbrev pub sheetKind : ℕ
 sheetKind = 78
 
--- the case whose sheet is in force at the case at a place: that case itself where its kind, which is its first byte, says so; else the one before
+-- the case whose sheet is in force at the case at a place: that case itself where its kind says so; else the one before
 unfoldable pub inForce : List ℕ → ℕ → ℕ → ℕ
 inForce b at before = cond (eqb (getD b at 0) sheetKind) at before

@@ -1,17 +1,55 @@
-//! What the test programs share. Their input holds numbers in four columns, or three times four where they may be large, and parts whose
-//! sizes such numbers tell. A case may bring the sheet for the cases after it.
+//! What the test programs share: how a case is laid out in their input, and what they print in the same way. A number has four columns, or three
+//! times four where it may be large. A case may bring the sheet for the cases after it.
 
 ghost use mathlib.Core.Path.{_≡_};
-ghost use Rattle.cases.specs.Input.{partOf, numberAt, threeFields, largeAt, inForce};
+ghost use lib.ListN.{length};
+ghost use Rattle.cases.specs.Input.{partOf, numberAt, threeFields, largeAt, noteOf, dataOf, nextOf, inForce};
+use libc::STDOUT_FILENO;
 use lines::fields;
+use sheet::Answer;
 use sheet::Field;
 use sheet::Sheet;
 
 // A field holds a number below this.
 const FIELD_BASE: u64 = 10000;
 
+// Where the parts of a case stand, counted from its kind, which is one byte: the size of its note, five numbers, the size of its data, its note. The
+// data come last.
+pub struct Case;
+
+impl Case {
+    const NOTE_SIZE: usize = 1;
+
+    // A number in three fields.
+    const NUMBER_WIDTH: usize = 3 * Sheet::FIELD_WIDTH;
+
+    pub const FIRST: usize = Case::NOTE_SIZE + Sheet::FIELD_WIDTH;
+
+    pub const SECOND: usize = Case::FIRST + Case::NUMBER_WIDTH;
+
+    pub const THIRD: usize = Case::SECOND + Case::NUMBER_WIDTH;
+
+    pub const FOURTH: usize = Case::THIRD + Case::NUMBER_WIDTH;
+
+    pub const FIFTH: usize = Case::FOURTH + Case::NUMBER_WIDTH;
+
+    const DATA_SIZE: usize = Case::FIFTH + Case::NUMBER_WIDTH;
+
+    const NOTE: usize = Case::DATA_SIZE + Case::NUMBER_WIDTH;
+
+    // The most bytes of the input.
+    pub const MOST_INPUT: usize = 256000;
+}
+
+// The buffer for the input. The clause tells its length, which lending a part needs.
+pub fn input_buffer() -> [u8; Case::MOST_INPUT]
+    ensures { λ r. do ⌜ (← ⟦Case::MOST_INPUT⟧ .entry) ≡ length r ⌝ }
+{
+    [0; Case::MOST_INPUT]
+}
+
 // Some bytes of the input; none where they are not all there.
-pub fn part(input: &[u8], at: usize, n: usize) -> &[u8]
+fn part(input: &[u8], at: usize, n: usize) -> &[u8]
     ensures { λ r. ⌜ now r ≡ partOf (now (input .entry)) at n ⌝ }
 {
     let size = input.len();
@@ -26,7 +64,7 @@ pub fn part(input: &[u8], at: usize, n: usize) -> &[u8]
 }
 
 // The number in four columns at a place of the input; 0 where there is none.
-pub fn number_at(input: &[u8], at: usize) -> u16
+fn number_at(input: &[u8], at: usize) -> u16
     ensures { λ r. ⌜ r ≡ numberAt (now (input .entry)) at ⌝ }
 {
     match fields::read_field(part(input, at, Sheet::FIELD_WIDTH)) {
@@ -59,6 +97,46 @@ pub fn large_at(input: &[u8], at: usize) -> u32
     u32::MAX
 }
 
+// The note of the case at a place.
+pub fn note_of(input: &[u8], at: usize) -> &[u8]
+    ensures { λ r. ⌜ now r ≡ noteOf (now (input .entry)) at ⌝ }
+{
+    if input.len() < at {
+        return &input[0..0];
+    }
+    let size = number_at(input, at + Case::NOTE_SIZE) as usize;
+    part(input, at + Case::NOTE, size)
+}
+
+// The data of the case at a place.
+pub fn data_of(input: &[u8], at: usize) -> &[u8]
+    ensures { λ r. ⌜ now r ≡ dataOf (now (input .entry)) at ⌝ }
+{
+    if input.len() < at {
+        return &input[0..0];
+    }
+    let note_size = number_at(input, at + Case::NOTE_SIZE) as usize;
+    let size = large_at(input, at + Case::DATA_SIZE) as usize;
+    part(input, at + Case::NOTE + note_size, size)
+}
+
+// Where the case after the one at a place stands.
+pub fn next_case(input: &[u8], at: usize) -> usize
+    ensures { λ r. ⌜ r ≡ nextOf (now (input .entry)) at ⌝ }
+{
+    let end = input.len();
+    if end < at {
+        return end;
+    }
+    let note_size = number_at(input, at + Case::NOTE_SIZE) as usize;
+    let data_size = large_at(input, at + Case::DATA_SIZE) as usize;
+    let next = at + Case::NOTE + note_size + data_size;
+    if next < end {
+        return next;
+    }
+    end
+}
+
 // The case whose sheet is in force at the case at a place: that case itself if its kind is N, else the one before.
 pub fn case_in_force(input: &[u8], at: usize, before: usize) -> usize
     ensures { λ r. ⌜ r ≡ inForce (now (input .entry)) at before ⌝ }
@@ -70,4 +148,23 @@ pub fn case_in_force(input: &[u8], at: usize, before: usize) -> usize
         return at;
     }
     before
+}
+
+// A number in four columns.
+pub fn print_column(n: u64) {
+    let text = fields::columns(n);
+    io::write_all(STDOUT_FILENO, &text);
+}
+
+// A number and its place.
+pub fn print_place(answer: Answer) {
+    print_column(answer.number as u64);
+    print_column(answer.place as u64);
+}
+
+// The note of the case at a place, which ends what is printed for it.
+pub fn print_note(input: &[u8], at: usize) {
+    io::write_all(STDOUT_FILENO, b" ");
+    io::write_all(STDOUT_FILENO, note_of(input, at));
+    io::write_all(STDOUT_FILENO, b"\n");
 }

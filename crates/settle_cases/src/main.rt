@@ -1,45 +1,28 @@
 //! Runs the cases of standard input through settling and batches, and prints each answer with both lent buffers beside the case's note.
 //! tests/settle_cases.py tells the layout of a case and where each expected answer comes from.
 
-ghost use Prim.Native.Nat.{_≤_, _<_};
+ghost use Prim.Native.Nat.{_<_};
 ghost use mathlib.Core.Path.{_≡_};
 ghost use lib.ListN.{length};
 ghost use Rattle.io.specs.Counts.{Counts};
+use cases::Case;
 use cases::case_in_force;
+use cases::data_of;
+use cases::input_buffer;
 use cases::large_at;
-use cases::number_at;
-use cases::part;
+use cases::next_case;
+use cases::print_column;
+use cases::print_note;
+use cases::print_place;
 use libc::STDIN_FILENO;
 use libc::STDOUT_FILENO;
-use lines::fields;
 use net::Net;
-use sheet::Answer;
-use sheet::Sheet;
 use ternary::Signal;
 
-// Where the parts of a case stand, counted from its kind, which is one byte.
-struct Case;
+// The buffers that calls are lent.
+struct Lent;
 
-impl Case {
-    const NOTE_SIZE: usize = 1;
-
-    // A number in three fields.
-    const NUMBER_WIDTH: usize = 3 * Sheet::FIELD_WIDTH;
-
-    const OLD: usize = Case::NOTE_SIZE + Sheet::FIELD_WIDTH;
-
-    const NEW: usize = Case::OLD + Case::NUMBER_WIDTH;
-
-    const START: usize = Case::NEW + Case::NUMBER_WIDTH;
-
-    const FIRST_SIZE: usize = Case::START + Case::NUMBER_WIDTH;
-
-    const SECOND_SIZE: usize = Case::FIRST_SIZE + Case::NUMBER_WIDTH;
-
-    const DATA_SIZE: usize = Case::SECOND_SIZE + Case::NUMBER_WIDTH;
-
-    const NOTE: usize = Case::DATA_SIZE + Case::NUMBER_WIDTH;
-
+impl Lent {
     // What a lent buffer holds before the call.
     const UNTOUCHED: u8 = 9;
 
@@ -49,49 +32,28 @@ impl Case {
     // A batch has at most so many jobs. For each it is lent the bytes of r and t, and three answer bytes.
     const MOST_JOBS: usize = 9999;
 
-    const MOST_RESULTS: usize = Case::MOST_JOBS * 2 * Net::MOST_KEY_NODES;
+    const MOST_RESULTS: usize = Lent::MOST_JOBS * 2 * Net::MOST_KEY_NODES;
 
-    const MOST_ANSWERS: usize = Case::MOST_JOBS * 3;
-
-    // The most bytes of the input: so many jobs on the largest sheet, and notes.
-    const MOST_INPUT: usize = Case::MOST_JOBS * Sheet::LINE_WIDTH + Sheet::MOST_BYTES + 40000;
+    const MOST_ANSWERS: usize = Lent::MOST_JOBS * 3;
 }
 
 // The buffers before a call. Each clause tells the length, which lending a part needs.
-fn signal_buffer() -> [u8; Case::MOST_SIGNALS]
-    ensures { λ r. do ⌜ (← ⟦Case::MOST_SIGNALS⟧ .entry) ≡ length r ⌝ }
+fn signal_buffer() -> [u8; Lent::MOST_SIGNALS]
+    ensures { λ r. do ⌜ (← ⟦Lent::MOST_SIGNALS⟧ .entry) ≡ length r ⌝ }
 {
-    [Case::UNTOUCHED; Case::MOST_SIGNALS]
+    [Lent::UNTOUCHED; Lent::MOST_SIGNALS]
 }
 
-fn result_buffer() -> [u8; Case::MOST_RESULTS]
-    ensures { λ r. do ⌜ (← ⟦Case::MOST_RESULTS⟧ .entry) ≡ length r ⌝ }
+fn result_buffer() -> [u8; Lent::MOST_RESULTS]
+    ensures { λ r. do ⌜ (← ⟦Lent::MOST_RESULTS⟧ .entry) ≡ length r ⌝ }
 {
-    [Case::UNTOUCHED; Case::MOST_RESULTS]
+    [Lent::UNTOUCHED; Lent::MOST_RESULTS]
 }
 
-fn answer_buffer() -> [u8; Case::MOST_ANSWERS]
-    ensures { λ r. do ⌜ (← ⟦Case::MOST_ANSWERS⟧ .entry) ≡ length r ⌝ }
+fn answer_buffer() -> [u8; Lent::MOST_ANSWERS]
+    ensures { λ r. do ⌜ (← ⟦Lent::MOST_ANSWERS⟧ .entry) ≡ length r ⌝ }
 {
-    [Case::UNTOUCHED; Case::MOST_ANSWERS]
-}
-
-fn input_buffer() -> [u8; Case::MOST_INPUT]
-    ensures { λ r. do ⌜ (← ⟦Case::MOST_INPUT⟧ .entry) ≡ length r ⌝ }
-{
-    [0; Case::MOST_INPUT]
-}
-
-// A number in four columns.
-fn print_column(n: u64) {
-    let text = fields::columns(n);
-    io::write_all(STDOUT_FILENO, &text);
-}
-
-// A number and its place.
-fn print_place(answer: Answer) {
-    print_column(answer.number as u64);
-    print_column(answer.place as u64);
+    [Lent::UNTOUCHED; Lent::MOST_ANSWERS]
 }
 
 // A signal as a character; any other byte as its number.
@@ -147,26 +109,17 @@ fn size_at(cases: &[u8], at: usize, buffer: &[u8]) -> usize
     io::count(large_at(cases, at) as isize, buffer)
 }
 
-// The bytes that come with the case at a place: a sheet, or jobs.
-fn data_at(cases: &[u8], at: usize) -> &[u8]
-    requires { ⌜ at ≤ length (now cases) ⌝ }
-{
-    let note_size = number_at(cases, at + Case::NOTE_SIZE) as usize;
-    let data_size = large_at(cases, at + Case::DATA_SIZE) as usize;
-    part(cases, at + Case::NOTE + note_size, data_size)
-}
-
 // The settling that the case at a place asks for.
 fn run_settling(cases: &[u8], at: usize, net: Net)
     requires { ⌜ at < length (now cases) ⌝ }
 {
-    let old = large_at(cases, at + Case::OLD);
-    let new = large_at(cases, at + Case::NEW);
-    let start = large_at(cases, at + Case::START);
+    let old = large_at(cases, at + Case::FIRST);
+    let new = large_at(cases, at + Case::SECOND);
+    let start = large_at(cases, at + Case::THIRD);
     let mut r = signal_buffer();
     let mut t = signal_buffer();
-    let r_size = size_at(cases, at + Case::FIRST_SIZE, &r);
-    let t_size = size_at(cases, at + Case::SECOND_SIZE, &t);
+    let r_size = size_at(cases, at + Case::FOURTH, &r);
+    let t_size = size_at(cases, at + Case::FIFTH, &t);
     print_settling(net, old, new, start, &mut r[..r_size], &mut t[..t_size]);
 }
 
@@ -176,9 +129,9 @@ fn run_batch(cases: &[u8], at: usize, net: Net)
 {
     let mut results = result_buffer();
     let mut answers = answer_buffer();
-    let results_size = size_at(cases, at + Case::FIRST_SIZE, &results);
-    let answers_size = size_at(cases, at + Case::SECOND_SIZE, &answers);
-    let jobs = data_at(cases, at);
+    let results_size = size_at(cases, at + Case::FOURTH, &results);
+    let answers_size = size_at(cases, at + Case::FIFTH, &answers);
+    let jobs = data_of(cases, at);
     if cases[at] == b'B' {
         print_batch(
             net,
@@ -208,28 +161,14 @@ fn print_answer(cases: &[u8], at: usize, sheet: &[u8])
     }
 }
 
-// Runs the case at a place, for the sheet of the case at another, and tells where the next one stands.
-fn run_case(cases: &[u8], at: usize, from: usize) -> usize
-    requires { ⌜ (at < length (now cases)) × (from ≤ length (now cases)) ⌝ }
-    ensures { λ r. ⌜ (at < r) × (r ≤ length (now (cases .entry))) ⌝ }
-{
-    let size = cases.len();
-    let note_size = number_at(cases, at + Case::NOTE_SIZE) as usize;
-    let data_size = large_at(cases, at + Case::DATA_SIZE) as usize;
-    print_answer(cases, at, data_at(cases, from));
-    io::write_all(STDOUT_FILENO, b" ");
-    io::write_all(STDOUT_FILENO, part(cases, at + Case::NOTE, note_size));
-    io::write_all(STDOUT_FILENO, b"\n");
-    let next = at + Case::NOTE + note_size + data_size;
-    if next < size { next } else { size }
-}
-
 fn run_cases(cases: &[u8]) {
     let mut at: usize = 0;
     let mut from: usize = 0;
     while at < cases.len() {
         from = case_in_force(cases, at, from);
-        at = run_case(cases, at, from);
+        print_answer(cases, at, data_of(cases, from));
+        print_note(cases, at);
+        at = next_case(cases, at);
     }
 }
 

@@ -2,6 +2,7 @@
 use Prim.Native.Nat.{_≤_, _-_}
 use lib.ListN.{length}
 use borrow.Author.Needs.{needs}
+use Rattle.cases.proofs.InputLaws.{next-within, next-less}
 use Rattle.sheet_cases.proofs.run_cases.Statement.{statement}
 use Rattle.sheet_cases.proofs.run_cases.Tie as tie
 
@@ -14,18 +15,27 @@ abbrev μ-loop : tie.MeasureT-loop
 loop-holds : tie.Need-loop-holds Inv-loop μ-loop
 loop-holds c = search needs
 
-run-case-requires : tie.Need-run-case-requires Inv-loop μ-loop
-run-case-requires c κs = search needs
+print-answer-requires : tie.Need-print-answer-requires Inv-loop μ-loop
+print-answer-requires c κs = search needs
+
+print-note-requires : tie.Need-print-note-requires Inv-loop μ-loop
+print-note-requires c κs = search needs
+
+next-case-requires : tie.Need-next-case-requires Inv-loop μ-loop
+next-case-requires c κs = search needs
 
 loop-less : tie.Need-loop-less Inv-loop μ-loop
-loop-less c = search needs
+loop-less c =
+    let t = c .before .before .before in
+    rw (c .next-case .ensures) (next-less (t .before .before .before .args .cases .now) _ (t .loop-test .taken))
 
 loop-again : tie.Need-loop-again Inv-loop μ-loop
-loop-again c = search needs
+loop-again c = rw (c .next-case .ensures) (next-within _ _)
 
 returns : tie.Need-returns Inv-loop μ-loop
 returns c = search needs
 
 pub run-cases-spec : {M : Type 1} → statement M
 run-cases-spec =
-    tie.close (tie.spec Inv-loop μ-loop loop-holds run-case-requires loop-less loop-again returns)
+    tie.close
+    (tie.spec Inv-loop μ-loop loop-holds print-answer-requires print-note-requires next-case-requires loop-less loop-again returns)

@@ -1,14 +1,13 @@
--- Each case moves on towards the end of the input, and the case whose sheet is in force stands within it.
+-- Each case moves on towards the end of the input.
 use Prim.Native.Nat.{_≤_, _-_}
-use native.Mathlib.Omega.{arith}
 use lib.ListN.{length}
 use borrow.Author.Needs.{needs}
-use Rattle.cases.proofs.InputLaws.{in-force-within}
+use Rattle.cases.proofs.InputLaws.{next-within, next-less}
 use Rattle.verdict_cases.proofs.run_cases.Statement.{statement}
 use Rattle.verdict_cases.proofs.run_cases.Tie as tie
 
 abbrev Inv-loop : tie.InvT-loop
-Inv-loop cases at₀ from₀ at from = (at ≤ length cases) × (from ≤ length cases)
+Inv-loop cases at₀ from₀ at from = at ≤ length cases
 
 abbrev μ-loop : tie.MeasureT-loop
 μ-loop cases at₀ from₀ at from = length cases - at
@@ -19,21 +18,41 @@ loop-holds c = search needs
 case-in-force-requires : tie.Need-case-in-force-requires Inv-loop μ-loop
 case-in-force-requires c κs = search needs
 
-within : (c : tie.After-case-in-force Inv-loop μ-loop) → c .case-in-force .result ≤ length (c .before .before .before .before .args .cases .now)
-within c = rw (c .case-in-force .ensures) (in-force-within _ _ _ (omega arith) (c .before .before .loop .inv .1))
+data-of-requires : tie.Need-data-of-requires Inv-loop μ-loop
+data-of-requires c κs = search needs
 
-run-case-requires : tie.Need-run-case-requires Inv-loop μ-loop
-run-case-requires c κs = (c .before .loop-test .taken, within c)
+print-answer-requires : tie.Need-print-answer-requires Inv-loop μ-loop
+print-answer-requires c κs = search needs
+
+print-note-requires : tie.Need-print-note-requires Inv-loop μ-loop
+print-note-requires c κs = search needs
+
+next-case-requires : tie.Need-next-case-requires Inv-loop μ-loop
+next-case-requires c κs = search needs
 
 loop-less : tie.Need-loop-less Inv-loop μ-loop
-loop-less c = search needs
+loop-less c =
+    let t = c .before .before .before .before .before in
+    rw (c .next-case .ensures) (next-less (t .before .before .before .args .cases .now) _ (t .loop-test .taken))
 
 loop-again : tie.Need-loop-again Inv-loop μ-loop
-loop-again c = (c .run-case .ensures .1, within (c .before))
+loop-again c = rw (c .next-case .ensures) (next-within _ _)
 
 returns : tie.Need-returns Inv-loop μ-loop
 returns c = search needs
 
 pub run-cases-spec : {M : Type 1} → statement M
 run-cases-spec =
-    tie.close (tie.spec Inv-loop μ-loop loop-holds case-in-force-requires run-case-requires loop-less loop-again returns)
+    tie.close
+    (tie.spec
+    Inv-loop
+    μ-loop
+    loop-holds
+    case-in-force-requires
+    data-of-requires
+    print-answer-requires
+    print-note-requires
+    next-case-requires
+    loop-less
+    loop-again
+    returns)
