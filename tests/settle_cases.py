@@ -25,15 +25,6 @@ UNTOUCHED = settle_model.UNTOUCHED
 NET = None  # the model of the sheet in force
 
 
-def number(state):
-    """The first letter or key node weighs 1."""
-    return state if isinstance(state, int) else sum(int(bit) << i for i, bit in enumerate(state))
-
-
-def job(old, new, start):
-    return line(4, number(old), number(new), number(start), 0)
-
-
 def case(kind, answer, note, numbers=(), data=b""):
     CASES.append((kind, numbers, data, answer, note))
 

@@ -1,4 +1,4 @@
-"""How the generators of the test programs write sheets, and the sheets of the report's networks and of document 01's worked net.
+"""How the generators of the test programs write sheets and jobs, and the sheets of the report's networks and of document 01's worked net.
 
 Where the report's drawing is lost, the sheet is made so that the report's sentences on it hold. Vertex 1 carries 0 and vertex 2 carries 1 unless
 said otherwise; beside each net stand its letters in order and its other vertices.
@@ -38,6 +38,15 @@ def sheet(letters, vertices, edges):
     return (line(1, len(vertices), len(edges), letters, 1)
             + b"".join(line(2, v + 1, role, label, 0) for v, (role, label) in enumerate(vertices))
             + b"".join(line(3, *edge) for edge in edges))
+
+
+def number(state):
+    """The first letter or key node weighs 1."""
+    return state if isinstance(state, int) else sum(int(bit) << i for i, bit in enumerate(state))
+
+
+def job(old, new, start):
+    return line(4, number(old), number(new), number(start), 0)
 
 
 def inverter(y, symbol):

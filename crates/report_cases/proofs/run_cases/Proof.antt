@@ -1,0 +1,58 @@
+-- Each case moves on towards the end of the input.
+use Prim.Native.Nat.{_≤_, _-_}
+use lib.ListN.{length}
+use borrow.Author.Needs.{needs}
+use Rattle.cases.proofs.InputLaws.{next-within, next-less}
+use Rattle.report_cases.proofs.run_cases.Statement.{statement}
+use Rattle.report_cases.proofs.run_cases.Tie as tie
+
+abbrev Inv-loop : tie.InvT-loop
+Inv-loop cases at₀ from₀ at from = at ≤ length cases
+
+abbrev μ-loop : tie.MeasureT-loop
+μ-loop cases at₀ from₀ at from = length cases - at
+
+loop-holds : tie.Need-loop-holds Inv-loop μ-loop
+loop-holds c = search needs
+
+case-in-force-requires : tie.Need-case-in-force-requires Inv-loop μ-loop
+case-in-force-requires c κs = search needs
+
+data-of-requires : tie.Need-data-of-requires Inv-loop μ-loop
+data-of-requires c κs = search needs
+
+print-answer-requires : tie.Need-print-answer-requires Inv-loop μ-loop
+print-answer-requires c κs = search needs
+
+print-note-requires : tie.Need-print-note-requires Inv-loop μ-loop
+print-note-requires c κs = search needs
+
+next-case-requires : tie.Need-next-case-requires Inv-loop μ-loop
+next-case-requires c κs = search needs
+
+loop-less : tie.Need-loop-less Inv-loop μ-loop
+loop-less c =
+    let t = c .before .before .before .before .before in
+    rw (c .next-case .ensures) (next-less (t .before .before .before .args .cases .now) _ (t .loop-test .taken))
+
+loop-again : tie.Need-loop-again Inv-loop μ-loop
+loop-again c = rw (c .next-case .ensures) (next-within _ _)
+
+returns : tie.Need-returns Inv-loop μ-loop
+returns c = search needs
+
+pub run-cases-spec : {M : Type 1} → statement M
+run-cases-spec =
+    tie.close
+    (tie.spec
+    Inv-loop
+    μ-loop
+    loop-holds
+    case-in-force-requires
+    data-of-requires
+    print-answer-requires
+    print-note-requires
+    next-case-requires
+    loop-less
+    loop-again
+    returns)
