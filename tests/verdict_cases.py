@@ -2,7 +2,8 @@
 """Cases for the verdict and for the excitation of one vertex, with the answers that document 01 and the report ask for.
 
 Each case has a note: the report's row or sentence, or document 01's, that its answer follows from. Running this file writes the input and the
-expected output of the test program `verdict_cases`. The expected answers are worked out here by hand, never taken from a run or from a model.
+expected output of the test program `verdict_cases`. The expected answers are worked out here by hand; settle_model.py then works each of them out from
+the definitions, except the verdict on a net that has too many states for it, and a difference stops the run. None is taken from the program.
 
 The kinds of cases, and what the program prints for each before the note:
   N  a sheet, kept for the cases that follow it: the reader's number and place;
@@ -12,29 +13,41 @@ The kinds of cases, and what the program prints for each before the note:
 
 The numbers of a case are the input state, the key state and the vertex; its data are a sheet. The report's networks stand in sheets.py; the notes say which sentence of the report a sheet is made to satisfy.
 """
+import settle_model
 from case_files import store
 from sheets import *
 
 CASES = []
+NET = None  # the model of the sheet in force; none under a refusal
+MOST_SIGNALS = 14  # letters and key nodes together, for the model's verdict
 
 
 def case(kind, answer, note, numbers=(), data=b""):
     CASES.append((kind, numbers, data, answer, note))
 
 
-def net(note, data, number=0, place=0):
-    case(b"N", field(number) + field(place), note, data=data)
+def net(note, data, refusal=0, place=0):
+    global NET
+    NET = None if refusal else settle_model.Net(data)
+    case(b"N", field(refusal) + field(place), note, data=data)
 
 
-def verdict(number, place, note):
-    case(b"V", field(number) + field(place), note)
+def verdict(refusal, place, note):
+    if NET is None or NET.letters + len(NET.keys) <= MOST_SIGNALS:
+        model = NET.verdict() if NET else (41, 0)
+        assert (refusal, place) == model, (note, model)
+    case(b"V", field(refusal) + field(place), note)
 
 
-def excitation(number, value, note, asked_input, asked_key, asked_vertex):
-    case(b"E", field(number) + field(value), note, (asked_input, asked_key, asked_vertex))
+def excitation(refusal, value, note, asked_input, asked_key, asked_vertex):
+    model = NET.excited(asked_input, asked_key, asked_vertex) if NET else (41, 0)
+    assert (refusal, value) == model, (note, model)
+    case(b"E", field(refusal) + field(value), note, (asked_input, asked_key, asked_vertex))
 
 
 def state(characters, note, asked_input, asked_key=0):
+    model = [NET.excited(asked_input, asked_key, y) for y in NET.roles]
+    assert characters == "".join("-" if refusal else str(value) for refusal, value in model), (note, model)
     case(b"S", characters.encode(), note, (asked_input, asked_key))
 
 
@@ -53,11 +66,14 @@ verdict(33, 4, "y is 2 at a 0 b 1; with no key node every state is stable")
 net("figure 7.1(a): the NOR gate with its n edge under a always closed",
     sheet(2, [ZERO, ONE, OUTPUT, STORAGE], GATE[:2] + [(3, 1, N, 1)] + GATE[3:]))
 excitation(0, 2, "section 7: for a = b = 0 the excitation of z is 2", 0, 0, 3)
+state("--22", "the same with y, which is joined to z by a closed edge", 0)
 verdict(32, 0, "at a = b = 0 z is joined to 1 and to 0: a fight, and 32 comes before the 33 of z")
 net("figure 7.1(b): the NOR gate with its p edge under a always open",
     sheet(2, [ZERO, ONE, OUTPUT, STORAGE], GATE[:1] + [(4, 3, P, 1)] + GATE[2:]))
 excitation(0, 3, "section 7: for a = b = 0 z floats", 0, 0, 3)
-state("--01", "a 0 b 0 became 3; a 1 b 0 is as before", 1)
+state("--31", "the same with y, which is joined to 1 as before", 0)
+state("--03", "section 7: a 0 b 1 comes first in the test sequence and gives z 0, as in the gate without the fault", 2)
+state("--01", "a 1 b 0 is as before", 1)
 verdict(0, 0, "C3 allows an output at 3")
 
 net("NOR latch, figure 3.2: letters S R, key nodes and outputs Q bar 3 and Q 4, inner vertices y1 5 and y2 6", NOR_LATCH)
@@ -93,9 +109,17 @@ verdict(32, 0, "row 5 has Q bar 0 and Q 0: a fight in a stable state")
 net("the NOR latch, and an edge under Q from the 0-vertex to the 1-vertex", sheet(2, STORED, LATCH + [(1, 2, N, vertex(4))]))
 verdict(32, 0, "row 1 has Q 1: one edge can be a fight")
 
+net("transmission gates, figure 2.3: letters a b, 3 carries b; output 4 by the gate of a, output 5 by the gate of a'", sheet(
+    2, [ZERO, ONE, carries(2), OUTPUT, OUTPUT], pass_on(3, 4, letter(1)) + pass_off(3, 5, letter(1))))
+state("---30", "a 0 b 0: the gate of a is open, that of a' passes the 0", 0)
+state("---03", "a 1 b 0: the other way round", 1)
+state("---31", "a 0 b 1: the gate of a' passes the 1", 2)
+state("---13", "a 1 b 1: the gate of a passes the 1", 3)
+verdict(0, 0, "both values are passed firmly, and an open gate leaves its vertex at 3")
+
 net("multiplexer, figure 2.4: letters a b c, output z 3; 4 carries b and 5 carries c", MULTIPLEXER)
-for number, value, letters in ((0, 0, "000"), (1, 0, "100"), (2, 0, "010"), (3, 1, "110"), (4, 1, "001"), (5, 0, "101"), (6, 1, "011"), (7, 1, "111")):
-    state("--%d--" % value, "z = ab + a'c at abc %s" % letters, number)
+for letters, value in (("000", 0), ("100", 0), ("010", 0), ("110", 1), ("001", 1), ("101", 0), ("011", 1), ("111", 1)):
+    state("--%d--" % value, "z = ab + a'c at abc %s" % letters, number(letters))
 verdict(0, 0, "z is always b or c, by a transmission gate that carries both values firmly")
 
 net("oscillator, figure 3.4(a): key node and output 3", OSCILLATOR)
@@ -116,16 +140,22 @@ state("--000", "abc 111: 00", 7)
 verdict(0, 0, "section 3: the graph of figure 3.4(b) is well formed")
 excitation(43, 0, "row 43: without key nodes the one key state is 0", 0, 1, 3)
 
+# Letters a b c, and what example 4.1 selects: b if a = 0, c if a = 1.
+SELECTED = (("000", 0), ("100", 0), ("010", 1), ("110", 0), ("001", 0), ("101", 1), ("011", 1), ("111", 1))
+
 net("figure 3.4(c): letters a b c, y1 3, y2 4, output 5; 6 carries b and 7 carries c", NOT_WELL_FORMED)
 state("--121--", "a b c y1 y2 all 0: the excitation of y2 is 2, since both its connections to 0 are p-connections, not stable", 0, 0)
-state("--101--", "once y1 has followed a, y2 has an n-connection to 0: stable", 0, 1)
+for letters, value in SELECTED:
+    y1 = 1 - int(letters[0])
+    state("--%d%d%d--" % (y1, value, 1 - value), "section 4: only while y1 has not followed a; at abc %s with y1 = a' y2 is clean, stable" % letters,
+          number(letters), y1 + 2 * value)
 verdict(31, 4, "section 3: not well formed, key node y2 violates C1; y1 is a' and clean")
 
 net("selector, figure 4.1, the T-graph of figure 3.4(c): letters a b c, y2 3, output 4; 5 carries b and 6 carries c", SELECTOR)
-for number, value, letters in ((0, 0, "000"), (1, 0, "100"), (2, 1, "010"), (3, 0, "110"), (4, 0, "001"), (5, 1, "101"), (6, 1, "011"), (7, 1, "111")):
-    state("--%d%d--" % (value, 1 - value), "y2 is excited to b if a = 0, to c if a = 1: abc %s, y2 at that value, stable" % letters, number, value)
-state("--11--", "abc 010 from y2 0: not stable", 2, 0)
-state("--00--", "abc 000 from y2 1: not stable", 0, 1)
+for letters, value in SELECTED:
+    state("--%d%d--" % (value, 1 - value), "y2 is excited to b if a = 0, to c if a = 1: abc %s, y2 at that value, stable" % letters, number(letters), value)
+for letters, value in SELECTED:
+    state("--%d%d--" % (value, value), "abc %s from y2 at the other value: not stable" % letters, number(letters), 1 - value)
 verdict(0, 0, "example 4.1: well formed")
 
 net("D flip-flop, figure 4.2: letters c D, y 3, Q bar 4, Q 5; 6 carries D", FLIP_FLOP)
@@ -133,8 +163,10 @@ state("--111-", "c 0 D 0, y 0 Q bar 0: y goes to (Q bar)', Q bar to y', not stab
 state("--101-", "c 0 D 0, y 1 Q bar 0: kept, stable", 0, 1)
 state("--010-", "c 0 D 0, y 0 Q bar 1: kept, stable", 0, 2)
 state("--000-", "c 0 D 0, y 1 Q bar 1: both go to 0, not stable", 0, 3)
+state("--111-", "c 0 D 1, y 0 Q bar 0: D does not matter at c 0, not stable", 2, 0)
 state("--101-", "c 0 D 1, y 1 Q bar 0: D does not matter at c 0, stable", 2, 1)
 state("--010-", "c 0 D 1, y 0 Q bar 1: D does not matter at c 0, stable", 2, 2)
+state("--000-", "c 0 D 1, y 1 Q bar 1: D does not matter at c 0, not stable", 2, 3)
 state("--011-", "c 1 D 0, y 0 Q bar 0: y to D, Q bar to y', not stable", 1, 0)
 state("--001-", "c 1 D 0, y 1 Q bar 0: y to D, not stable", 1, 1)
 state("--010-", "c 1 D 0, y 0 Q bar 1: stable", 1, 2)
@@ -154,9 +186,22 @@ verdict(0, 0, "example 4.3: well formed")
 
 net("figure 4.4: letter a, y1 3, y2 4, y3 5, y4 6", TEMPORARY_FIGHT)
 state("--0020", "example 4.4: a 1, y1 y2 y3 101, the excitation of y3 is 2, not stable", 1, 5)
+state("--0120", "example 4.4: y1 has gone to 0, 001, y3 is still at 2, not stable", 1, 4)
+state("--0100", "example 4.4: y2 has gone to 1, 011, the fight is over and y3 goes to 0, not stable", 1, 6)
 state("--0101", "example 4.4: the state at which a 1 ends, y1 y2 y3 y4 0101, stable", 1, 2)
 state("--1131", "a 0, y1 y2 y3 010: both edges of y3 are open, not stable", 0, 2)
 verdict(31, 5, "example 4.4: rejected for a temporary fight, at y3")
+
+def inner(upper, lower):
+    """The vertex between the n edges of a NAND: 0 where the lower is closed; else mixed through the upper, or floating."""
+    return "0" if lower == "1" else "2" if upper == "1" else "3"
+
+
+def nands(a, b, y1, y2, y3):
+    """Figure 6.2's excitation equations, and the inner vertices."""
+    pairs = (a, y2), (y1, y3), (y2, b)
+    return "--" + "".join("0" if pair == ("1", "1") else "1" for pair in pairs) + "".join(inner(*pair) for pair in pairs)
+
 
 net("three NANDs, figure 6.2: letters a b, key nodes y1 3, y2 4, y3 5, inner vertices 6 7 8", THREE_NANDS)
 state("--010030", "section 6: ab 11 with 010 is stable", 3, 2)
@@ -168,6 +213,9 @@ state("--101300", "section 6: ab 01 with 101, one of two stable key states", 2, 
 state("--110020", "section 6: ab 01 with 110, the other one", 2, 3)
 state("--111320", "section 6: ab 01 with 100, half of the oscillation, not stable", 2, 1)
 state("--100000", "section 6: ab 01 with 111, the other half, not stable", 2, 7)
+for letters in ("00", "10", "01", "11"):
+    for keys in ("000", "100", "010", "110", "001", "101", "011", "111"):
+        state(nands(*letters, *keys), "figure 6.2: (a y2)', (y1 y3)', (y2 b)' at ab %s from %s" % (letters, keys), number(letters), number(keys))
 verdict(0, 0, "each gate is of the complementary design of figure 3.1, so proposition 3.3 holds")
 
 net("pessimism, figure 6.6: letters a b, y1 = (ab)' 3, y2 = (y1 y3)' 4, y3 = y2' 5, inner vertices 6 7", PESSIMISM)
