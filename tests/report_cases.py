@@ -123,7 +123,8 @@ jobs("an empty line and a line that is one byte short are 21 bytes together: the
 jobs("a line of kind 5, one of kind 3, and one whose last field is not 0",
      refused(46, line(5, 0, 1, 1, 0)), refused(46, line(3, 0, 1, 1, 0)), refused(46, line(4, 0, 1, 1, 1)), X)
 jobs("blanks for a number, a tab, a sign, a leading zero",
-     refused(46, b"   4   0   1       0\n"), refused(46, b"   4\t  0   1   1   0\n"), refused(46, b"   4   0  +1   1   0\n"), refused(46, b"   4   0  01   1   0\n"))
+     refused(46, b"   4   0   1       0\n"), refused(46, b"   4\t  0   1   1   0\n"),
+     refused(46, b"   4   0  +1   1   0\n"), refused(46, b"   4   0  01   1   0\n"))
 jobs("42, 43 and 44 between jobs that run: hyphens for r and t, and the later jobs run",
      X, refused(42, job(2, 0, 1)), STAYS, refused(43, job(0, 0, 2)), X, refused(44, job("1", "0", "1")), STAYS, refused(42, job(0, 9999, 1)), X)
 jobs("the rows of a job in order: 46 before 42, 42 before 43, 43 before 44",
