@@ -1,5 +1,4 @@
 -- The next case stands after the data, unless the input ends there.
-use native.Mathlib.Omega.{arith}
 use borrow.Author.Needs.{needs}
 use borrow.Author.Tests.{lt-ltb, le-ltb}
 use Rattle.cases.specs.Input.{nextOf}
