@@ -9,7 +9,8 @@ The kinds of cases, and what the program prints for each before the note:
   N  a sheet, kept for the cases that follow it: the first line of the output;
   J  the bytes of `jobs`: the lines of the jobs, from all pieces;
   M  the bytes of `jobs` as a repetition: for each piece how many bytes its text has, its first line and its last;
-  O  the first line in a buffer of some size: what is written, how many bytes that is, or `short`, and how many bytes of the buffer are untouched;
+  O  the first line in a buffer of some size: what is written, how many bytes that is, with `last` before it if nothing is to follow, or `short`, and
+     how many bytes of the buffer are untouched;
   P  the lines of a piece in a buffer of some size: the same.
 The first number of a case is the size of the jobs (M) or of the buffer (O, P), the second the number of the piece's first job (P). The test program goes
 from piece to piece as the program `settle` does. What it reads of its files is not tested here.
@@ -83,14 +84,15 @@ def many(note, data, size, *pieces):
     case(b"M", "".join("%d\n%s\n%s\n" % piece for piece in pieces), note, (size,), data)
 
 
-def in_buffer(kind, note, text, size, room, first=0, data=b""):
+def in_buffer(kind, note, text, size, room, first=0, data=b"", last=""):
     """A text in a buffer that is long enough, or a short one that stays as it is."""
-    answer = "short %d" % size if size < room else "%s%d %d" % (text, len(text), size - len(text))
+    answer = "short %d" % size if size < room else "%s%s%d %d" % (text, last, len(text), size - len(text))
     case(kind, answer, note, (size, first), data)
 
 
 def lent_opening(note, text, size):
-    in_buffer(b"O", note, text, size, OPENING_ROOM)
+    """After a number of the reader, or any verdict but 0, 32 or 33, the program ends."""
+    in_buffer(b"O", note, text, size, OPENING_ROOM, last="" if int(text[4:8]) in (0, 32, 33) else "last ")
 
 
 def lent_piece(note, lines, size, first, data):
@@ -217,8 +219,10 @@ unread("example 4.4: rejected, though a 1 ends in a stable state", job("1", "1",
 net("the NOR latch, and vertex 7 joined to 0 under Q hat and to 1 under Q bar hat: C2 is broken, place 0", sheet(
     2, STORED + [STORAGE], LATCH + [(1, 7, P, vertex(4)), (7, 2, P, vertex(3))]), 32, 0, 2)
 jobs("after 32 the jobs run", ran("11", "10", "00", 1, 1, "0X", "01"), refused(44, job("00", "00", "00")), ran("10", "00", "01", 0, 0, "01", "01"))
+lent_opening("the first line after 32: jobs may follow", opening(32, 0, 2), OPENING_ROOM)
 net("the NOR latch with y2 as an output: C3 is broken at vertex 6", sheet(2, STORED[:5] + [OUTPUT], LATCH), 33, 6, 2)
 jobs("after 33 the jobs run", ran("11", "01", "00", 1, 1, "X0", "10"), ran("11", "00", "00", 1, 0, "XX", "XX"))
+lent_opening("the first line after 33: jobs may follow", opening(33, 6, 2), OPENING_ROOM)
 net("an edge between the rails: 32 without any key node", sheet(0, [ZERO, ONE], [(1, 2, N, 1)]), 32, 0, 0)
 jobs("its jobs run", ran(0, 0, 0, 0, 0, "", ""))
 

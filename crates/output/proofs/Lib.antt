@@ -11,3 +11,4 @@ pub mod Stored
 pub mod LinesInTurn
 pub mod OutputLines
 pub mod Examples
+pub mod ForCSteps

@@ -4,3 +4,4 @@ pub mod Output
 pub mod Calls
 pub mod Pieces
 pub mod Printed
+pub mod ForC

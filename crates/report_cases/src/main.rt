@@ -54,6 +54,7 @@ fn written_bytes(written: Written, out: &[u8]) -> usize
 {
     match written {
         Written::Bytes(n) => io::count(n as isize, out),
+        Written::Last(n) => io::count(n as isize, out),
         Written::Short => io::count(0, out),
     }
 }
@@ -183,12 +184,17 @@ fn untouched_bytes(out: &[u8]) -> u64 {
     count
 }
 
-// What a call wrote to a lent buffer, how many bytes it says that it wrote, or that the buffer is short, and how many bytes are untouched.
+// What a call wrote to a lent buffer, how many bytes it says that it wrote and whether they are the last, or that the buffer is short, and how many bytes are
+// untouched.
 fn print_lent(written: Written, out: &[u8]) {
     let n = written_bytes(written, out);
     io::write_all(STDOUT_FILENO, &out[..n]);
     match written {
         Written::Bytes(count) => {
+            io::print_decimal(STDOUT_FILENO, count as u64);
+        }
+        Written::Last(count) => {
+            io::write_all(STDOUT_FILENO, b"last ");
             io::print_decimal(STDOUT_FILENO, count as u64);
         }
         Written::Short => {

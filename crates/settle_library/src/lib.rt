@@ -7,7 +7,7 @@ ghost use mathlib.Core.Path.{_≡_};
 ghost use Rattle.sheet.specs.Rows.{answer};
 ghost use Rattle.settlements.specs.Batch.{batched};
 ghost use Rattle.output.specs.Output.{judged, judgedOf};
-ghost use Rattle.settle_library.specs.Calls.{sheetBatch, sheetBatchOf, told, numbersOf, textCall, openingCallOf, pieceCallOf};
+ghost use Rattle.output.specs.ForC.{sheetBatch, sheetBatchOf, told, numbersOf, textCall, openingCallOf, pieceCallOf};
 
 // What a sheet is judged to be: the reader's number or else the verdict's, its place, and h.
 #[no_mangle]

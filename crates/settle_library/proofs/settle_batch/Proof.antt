@@ -2,7 +2,9 @@
 -- it has not, b after the batch, k after the key nodes are counted. Assumes nothing.
 use native.Mathlib.Omega.{arith}
 use borrow.Author.Needs.{needs}
-use Rattle.settle_library.proofs.Steps.{batch-refused, batch-run, net-fit}
+use Rattle.sheet.proofs.Outcome.{valid-at-zero}
+use Rattle.troubles.proofs.FitLaws.{valid-fit}
+use Rattle.output.proofs.ForCSteps.{batch-refused, batch-run}
 use Rattle.settle_library.proofs.settle_batch.Statement.{statement}
 use Rattle.settle_library.proofs.settle_batch.Tie as tie
 
@@ -26,7 +28,7 @@ batch-requires c κs = search needs
 key-count-requires : tie.Need-key-count-requires
 key-count-requires c κs =
     let e = c .before .before .before .before .before .before .before .before in
-    net-fit _ _ (e .before .before .before .read .ensures) (e .if1 .left) .readable
+    valid-fit _ (valid-at-zero _ _ (e .before .before .before .read .ensures) (e .if1 .left)) .readable
 
 cast-place-2 : tie.Need-cast-place-2
 cast-place-2 c = search needs
@@ -35,7 +37,7 @@ cast-h : tie.Need-cast-h
 cast-h c =
     let k = c .before in
     let e = k .before .before .before .before .before .before .before .before .before in
-    record { fits = omega (arith, k .key-count .ensures, net-fit _ _ (e .before .before .before .read .ensures) (e .if1 .left) .keys) }
+    record { fits = omega (arith, k .key-count .ensures, valid-fit _ (valid-at-zero _ _ (e .before .before .before .read .ensures) (e .if1 .left)) .keys) }
 
 cast-result-2 : tie.Need-cast-result-2
 cast-result-2 c = search needs

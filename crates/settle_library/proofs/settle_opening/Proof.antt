@@ -1,6 +1,6 @@
 -- `settle_library::settle_opening` meets its contract. Assumes nothing.
 use borrow.Author.Needs.{needs}
-use Rattle.settle_library.proofs.Steps.{opening-told}
+use Rattle.output.proofs.ForCSteps.{opening-told}
 use Rattle.settle_library.proofs.settle_opening.Statement.{statement}
 use Rattle.settle_library.proofs.settle_opening.Tie as tie
 

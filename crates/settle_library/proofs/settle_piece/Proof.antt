@@ -1,6 +1,6 @@
 -- `settle_library::settle_piece` meets its contract. Assumes nothing.
 use borrow.Author.Needs.{needs}
-use Rattle.settle_library.proofs.Steps.{piece-told}
+use Rattle.output.proofs.ForCSteps.{piece-told}
 use Rattle.settle_library.proofs.settle_piece.Statement.{statement}
 use Rattle.settle_library.proofs.settle_piece.Tie as tie
 

@@ -15,12 +15,12 @@ use Rattle.sheet.specs.Reading.{readSheet}
 use Rattle.sheet.specs.Job.{jobOf}
 use Rattle.sheet.proofs.Outcome.{accepted-at-zero}
 use Rattle.settlements.specs.Batch.{jobCount, jobWidth, answerWidth, batchOf}
 use Rattle.demands.specs.Demand1.{lineOf, answerOf}
 use Rattle.demands.specs.Demand3.{Settles, JobPromise}
 use Rattle.demands.proofs.Demand3.{demand3-job}
 use Rattle.demands.proofs.Kept.{JobKept, job-kept}
-use Rattle.settle_library.specs.Calls.{SheetBatch, sheetBatch, sheetBatchOf}
-use Rattle.settle_library.proofs.Steps.{batch-run}
+use Rattle.output.specs.ForC.{SheetBatch, sheetBatch, sheetBatchOf}
+use Rattle.output.proofs.ForCSteps.{batch-run}
 
 module _ (sheet jobs results answers : List ℕ) where
   on-net : {N : Net} → readSheet sheet ≡ accepted N → sheetBatchOf sheet jobs results answers ≡ sheetBatch (batchOf N jobs results answers) (keyCount N)

@@ -5,15 +5,12 @@ use mathlib.Core.List.{List}
 use mathlib.Core.Logic.{_≢_}
 use borrow.Author.Tests.{eq-eqb, ne-eqb}
 use Rattle.net.specs.Graph.{keyCount}
-use Rattle.excitations.specs.Fit.{Fit}
 use Rattle.sheet.specs.declared.Reading.{Reading}
 use Rattle.sheet.specs.Reading.{readSheet}
-use Rattle.sheet.proofs.Outcome.{valid-at-zero}
-use Rattle.troubles.proofs.FitLaws.{valid-fit}
 use Rattle.settlements.specs.Batch.{Batch, batched, batchOf}
 use Rattle.output.specs.declared.Written.{Written}
 use Rattle.output.specs.Calls.{report, openingOf, pieceOf}
-use Rattle.settle_library.specs.Calls.{sheetBatch, sheetBatchOf, Told, numbersOf, textCall, openingCallOf, pieceCallOf}
+use Rattle.output.specs.ForC.{sheetBatch, sheetBatchOf, Told, numbersOf, textCall, openingCallOf, pieceCallOf}
 
 -- a batch, by the reader's answer
 module _ (sheet jobs results answers : List ℕ) (r : Reading) (read : r ≡ readSheet sheet) where
@@ -25,9 +22,6 @@ module _ (sheet jobs results answers : List ℕ) (r : Reading) (read : r ≡ rea
       → sheetBatch b h ≡ sheetBatchOf sheet jobs results answers
   unfolding sheetBatchOf
   batch-run e batch keys = rw (← read, eq-eqb (r .answer .number) 0 e, batch, keys)
-
-pub net-fit : (sheet : List ℕ) (r : Reading) → r ≡ readSheet sheet → r .answer .number ≡ 0 → Fit (r .net)
-net-fit sheet r read e = valid-fit (r .net) (valid-at-zero sheet r read e)
 
 -- a text, by what the report's call wrote
 module _ {wrote : Written} {after : List ℕ} {t : Told} (numbers : t ≡ numbersOf wrote) where
