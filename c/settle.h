@@ -23,14 +23,14 @@ extern "C" {
 
 /* ---- sizes, in bytes unless another unit is named */
 
-#define SETTLE_LINE_BYTES 21        /* a line of a sheet and of the jobs, with its end */
+#define SETTLE_LINE_BYTES 21         /* a line of a sheet and of the jobs, with its end */
 #define SETTLE_MOST_SHEET_BYTES 6069 /* 289 lines; a longer sheet is answered 11 */
-#define SETTLE_MOST_KEY_NODES 12    /* the greatest h */
-#define SETTLE_MOST_JOBS 9999       /* jobs that the text has lines for */
-#define SETTLE_PIECE_JOBS 3333      /* jobs that one call of settle_piece takes */
-#define SETTLE_OPENING_BYTES 17     /* buffer of settle_opening */
-#define SETTLE_PIECE_BYTES 143319   /* buffer of settle_piece: SETTLE_PIECE_JOBS lines of 43 */
-#define SETTLE_ANSWER_BYTES 3       /* a job's part of `answers`: its number and the steps of both passes */
+#define SETTLE_MOST_KEY_NODES 12     /* the greatest h */
+#define SETTLE_MOST_JOBS 9999        /* jobs that the text has lines for */
+#define SETTLE_PIECE_JOBS 3333       /* jobs that one call of settle_piece takes */
+#define SETTLE_OPENING_BYTES 17      /* buffer of settle_opening */
+#define SETTLE_PIECE_BYTES 143319    /* buffer of settle_piece: SETTLE_PIECE_JOBS lines of 43 */
+#define SETTLE_ANSWER_BYTES 3        /* a job's part of `answers`: its number and the steps of both passes */
 
 /* jobs in so many bytes: a short last line is a job too */
 #define SETTLE_JOB_COUNT(bytes) (((bytes) + (SETTLE_LINE_BYTES - 1)) / SETTLE_LINE_BYTES)

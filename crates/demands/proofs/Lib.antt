@@ -10,4 +10,4 @@ pub mod Demand2
 pub mod Kept
 pub mod Instance
 pub mod Text
-pub mod ForC
+pub mod Library
