@@ -1,9 +1,6 @@
 //! The lines of the program's output in code: the first line, the line of a job, and those of many jobs in turn. Each is written to a lent
 //! part of just its size. Definitions and limits are those of the crate `output`.
 
-mod numbers;
-mod vectors;
-
 ghost use mathlib.Core.Path.{_≡_};
 ghost use mathlib.Core.List.{_++_};
 ghost use Prim.Native.Nat.{_+_, _*_, _^_, _≤_, _<_};
@@ -14,6 +11,8 @@ ghost use Rattle.settlements.specs.Batch.{answerWidth};
 ghost use Rattle.output.specs.Limits.{openingBytes, jobBytes};
 ghost use Rattle.output.specs.Text.{jobText, jobTexts};
 ghost use Rattle.output.specs.Output.{firstLine};
+use line_parts::numbers;
+use line_parts::vectors;
 use settlements::Settling;
 use sheet::Sheet;
 

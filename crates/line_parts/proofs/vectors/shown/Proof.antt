@@ -1,8 +1,8 @@
 -- `shown` meets its contract.
 use borrow.Author.Needs.{needs}
 use borrow.Author.Tests.{eq-eqb, ne-eqb}
-use Rattle.job_lines.proofs.vectors.shown.Statement.{statement}
-use Rattle.job_lines.proofs.vectors.shown.Tie as tie
+use Rattle.line_parts.proofs.vectors.shown.Statement.{statement}
+use Rattle.line_parts.proofs.vectors.shown.Tie as tie
 
 character-requires : tie.Need-character-requires
 character-requires c κs = search needs

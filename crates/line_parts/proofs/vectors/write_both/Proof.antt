@@ -5,8 +5,8 @@ use lib.ListN.{length}
 use borrow.Author.Needs.{needs}
 use Rattle.output.proofs.Lengths.{length-both}
 use Rattle.output.proofs.Stored.{Lent, with-blank, with-first, with-both-blanks, with-second, both-written}
-use Rattle.job_lines.proofs.vectors.write_both.Statement.{statement}
-use Rattle.job_lines.proofs.vectors.write_both.Tie as tie
+use Rattle.line_parts.proofs.vectors.write_both.Statement.{statement}
+use Rattle.line_parts.proofs.vectors.write_both.Tie as tie
 
 lent : (c : tie.Start) → Lent (c .args .h) (c .args .number) (c .args .own .now) (c .args .out .now)
 lent c = record { size = c .pre .0; owned = c .pre .1 }

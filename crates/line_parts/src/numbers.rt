@@ -10,7 +10,7 @@ use lines::fields;
 use sheet::Sheet;
 
 // A number in the four columns of a field.
-pub(crate) fn write_number(out: &mut [u8], n: u64)
+fn write_number(out: &mut [u8], n: u64)
     requires { ⌜ length (now out) ≡ fieldWidth ⌝ }
     ensures { λ _. ⌜ now (out .exit) ≡ writeNumber n ⌝ }
 {
@@ -22,7 +22,7 @@ pub(crate) fn write_number(out: &mut [u8], n: u64)
 }
 
 // Four numbers, a field each.
-pub(crate) fn write_four(out: &mut [u8], first: u64, second: u64, third: u64, fourth: u64)
+pub fn write_four(out: &mut [u8], first: u64, second: u64, third: u64, fourth: u64)
     requires { ⌜ length (now out) ≡ 4 * fieldWidth ⌝ }
     ensures { λ _. ⌜ now (out .exit) ≡ writeNumber first ++ writeNumber second ++ writeNumber third ++ writeNumber fourth ⌝ }
 {

@@ -13,7 +13,7 @@ use output::Report;
 use sheet::Sheet;
 
 // A signal as a character: 0, 1, and X for any other byte.
-pub(crate) fn character(signal: u8) -> u8
+fn character(signal: u8) -> u8
     ensures { λ r. ⌜ r ≡ spec.character signal ⌝ }
 {
     if signal <= 1 {
@@ -33,7 +33,7 @@ fn shown(number: u8, signal: u8) -> u8
 }
 
 // As many signals of a vector as the part has bytes.
-pub(crate) fn write_vector<'a, 'b>(out: &'a mut [u8], number: u8, vector: &'b [u8])
+fn write_vector<'a, 'b>(out: &'a mut [u8], number: u8, vector: &'b [u8])
     requires { ⌜ length (now out) ≤ length (now vector) ⌝ }
     ensures { λ _. ⌜ now (out .exit) ≡ spec.vectorText (length (now (out .entry))) number (now (vector .entry)) ⌝ }
 {
@@ -44,7 +44,7 @@ pub(crate) fn write_vector<'a, 'b>(out: &'a mut [u8], number: u8, vector: &'b [u
 }
 
 // A job's r and its t, each after a blank, and the end of the line.
-pub(crate) fn write_both<'a, 'b>(out: &'a mut [u8], h: usize, number: u8, own: &'b [u8])
+pub fn write_both<'a, 'b>(out: &'a mut [u8], h: usize, number: u8, own: &'b [u8])
     requires { ⌜ (length (now out) ≡ 2 * h + 3) × (length (now own) ≡ 2 * h) ⌝ }
     ensures { λ _. ⌜ now (out .exit) ≡ blank ∷ (spec.vectorText h number (now (own .entry)) ++ blank ∷ (spec.vectorText h number (drop h (now (own .entry))) ++ lineEnd ∷ [])) ⌝ }
 {

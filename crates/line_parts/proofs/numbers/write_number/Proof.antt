@@ -1,8 +1,8 @@
 -- `write_number` meets its contract.
 use borrow.Author.Needs.{needs}
 use Rattle.output.proofs.Stored.{number-stored}
-use Rattle.job_lines.proofs.numbers.write_number.Statement.{statement}
-use Rattle.job_lines.proofs.numbers.write_number.Tie as tie
+use Rattle.line_parts.proofs.numbers.write_number.Statement.{statement}
+use Rattle.line_parts.proofs.numbers.write_number.Tie as tie
 
 columns-requires : tie.Need-columns-requires
 columns-requires c κs = search needs

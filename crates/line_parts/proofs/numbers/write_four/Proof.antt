@@ -8,8 +8,8 @@ use borrow.Author.Needs.{needs}
 use Rattle.sheet.specs.Limits.{fieldWidth}
 use Rattle.settlements.proofs.FrontLaws.{first-part, next-part, last-part, all-written}
 use Rattle.output.proofs.Lengths.{length-number}
-use Rattle.job_lines.proofs.numbers.write_four.Statement.{statement}
-use Rattle.job_lines.proofs.numbers.write_four.Tie as tie
+use Rattle.line_parts.proofs.numbers.write_four.Statement.{statement}
+use Rattle.line_parts.proofs.numbers.write_four.Tie as tie
 
 mul-two : tie.Need-mul-two
 mul-two c = search needs

@@ -11,8 +11,8 @@ use Rattle.output.specs.Text.{vectorText}
 use Rattle.output.proofs.Lengths.{length-vector}
 use Rattle.output.proofs.Characters.{vector-entry}
 use Rattle.output.proofs.Stored.{vector-stored}
-use Rattle.job_lines.proofs.vectors.write_vector.Statement.{statement}
-use Rattle.job_lines.proofs.vectors.write_vector.Tie as tie
+use Rattle.line_parts.proofs.vectors.write_vector.Statement.{statement}
+use Rattle.line_parts.proofs.vectors.write_vector.Tie as tie
 
 abbrev Inv-loop : tie.InvT-loop
 Inv-loop out₀ number vector h i₀ out i = (i ≤ h) × (out ≡ take i (vectorText h number vector) ++ drop i out₀)

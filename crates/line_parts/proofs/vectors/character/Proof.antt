@@ -1,8 +1,8 @@
 -- `character` meets its contract.
 use borrow.Author.Needs.{needs}
 use Rattle.output.proofs.Characters.{digit-character, other-character}
-use Rattle.job_lines.proofs.vectors.character.Statement.{statement}
-use Rattle.job_lines.proofs.vectors.character.Tie as tie
+use Rattle.line_parts.proofs.vectors.character.Statement.{statement}
+use Rattle.line_parts.proofs.vectors.character.Tie as tie
 
 add-result : tie.Need-add-result
 add-result c = search needs
