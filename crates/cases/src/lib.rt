@@ -5,7 +5,6 @@ ghost use mathlib.Core.Path.{_≡_};
 ghost use lib.ListN.{length};
 ghost use Rattle.cases.specs.Input.{partOf, numberAt, threeFields, largeAt, noteOf, dataOf, nextOf, inForce};
 use libc::STDOUT_FILENO;
-use lines::fields;
 use sheet::Answer;
 use sheet::Field;
 use sheet::Sheet;

@@ -6,7 +6,6 @@ ghost use Prim.Native.Nat.{_*_};
 ghost use lib.ListN.{length};
 ghost use Rattle.sheet.specs.Limits.{fieldWidth};
 ghost use Rattle.sheet.specs.Line.{writeNumber};
-use lines::fields;
 use sheet::Sheet;
 
 // A number in the four columns of a field.

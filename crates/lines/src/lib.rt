@@ -1,6 +1,5 @@
-//! Lines in code, from the bottom up: one field, the five numbers of a line and one line of a sheet, job lines.
+//! Lines in code: the five numbers of a line and one line of a sheet, job lines.
 //! Types, definitions and laws are those of the crate `sheet`.
 
-pub mod fields;
 pub mod jobs;
 pub mod lines;

@@ -6,7 +6,6 @@ ghost use lib.ListN.{length};
 ghost use Rattle.sheet.specs.Limits.{lineWidth, fieldCount};
 ghost use Rattle.sheet.specs.Field.{fieldAnswer};
 ghost use Rattle.sheet.specs.Line.{fieldAt, readLine, lineAnswer, hasLine, sheetLine, lineNumber};
-use crate::fields;
 use sheet::Answer;
 use sheet::Field;
 use sheet::Line;

@@ -4,8 +4,8 @@ use mathlib.Core.Path.{sym, _∙_}
 use borrow.Author.Needs.{needs}
 use Rattle.sheet.specs.Limits.{fieldWidth}
 use Rattle.sheet.proofs.FieldSteps.{field-read, field-refused, field-fits, wrong-width}
-use Rattle.lines.proofs.fields.read_field.Statement.{statement}
-use Rattle.lines.proofs.fields.read_field.Tie as tie
+use Rattle.fields.proofs.read_field.Statement.{statement}
+use Rattle.fields.proofs.read_field.Tie as tie
 
 returns : tie.Need-returns
 returns c = rw (wrong-width fieldWidth _ (c .if1 .taken))

@@ -1,4 +1,4 @@
-//! One field: blanks, then a decimal number, right-justified and without leading zeros.
+//! One field in code: blanks, then a decimal number, right-justified and without leading zeros. Types, definitions and laws are those of the crate `sheet`.
 
 ghost use mathlib.Core.Path.{_≡_};
 ghost use mathlib.Core.Bool.{cond};

@@ -4,8 +4,8 @@ use mathlib.Core.Path.{sym, _∙_}
 use borrow.Author.Needs.{needs}
 use Rattle.sheet.specs.Limits.{fieldWidth}
 use Rattle.sheet.proofs.FieldSteps.{Agreeing, last-agrees, last-differs, left-agrees, left-differs, all-agree}
-use Rattle.lines.proofs.fields.is_field.Statement.{statement}
-use Rattle.lines.proofs.fields.is_field.Tie as tie
+use Rattle.fields.proofs.is_field.Statement.{statement}
+use Rattle.fields.proofs.is_field.Tie as tie
 
 abbrev Inv-loop : tie.InvT-loop
 Inv-loop b n i₀ rest₀ i rest = Agreeing b fieldWidth n i rest

@@ -4,8 +4,8 @@ use native.Mathlib.Omega.{arith}
 use borrow.Author.Needs.{needs}
 use Rattle.sheet.specs.Limits.{fieldWidth}
 use Rattle.sheet.proofs.FieldSteps.{Summed, sum-start, sum-fits, sum-more, sum-end}
-use Rattle.lines.proofs.fields.value.Statement.{statement}
-use Rattle.lines.proofs.fields.value.Tie as tie
+use Rattle.fields.proofs.value.Statement.{statement}
+use Rattle.fields.proofs.value.Tie as tie
 
 abbrev Inv-loop : tie.InvT-loop
 Inv-loop b n₀ i₀ n i = Summed b i n

@@ -1,8 +1,8 @@
 -- `left_column` meets its contract.
 use borrow.Author.Tests.{eq-eqb, ne-eqb}
 use borrow.Author.Needs.{needs}
-use Rattle.lines.proofs.fields.left_column.Statement.{statement}
-use Rattle.lines.proofs.fields.left_column.Tie as tie
+use Rattle.fields.proofs.left_column.Statement.{statement}
+use Rattle.fields.proofs.left_column.Tie as tie
 
 returns : tie.Need-returns
 returns c = rw (eq-eqb _ _ (c .if1 .taken))

@@ -2,8 +2,8 @@
 use borrow.Author.Needs.{needs}
 use Rattle.sheet.specs.Field.{column, writeField}
 use Rattle.sheet.proofs.FieldSteps.{left-digit}
-use Rattle.lines.proofs.fields.columns.Statement.{statement}
-use Rattle.lines.proofs.fields.columns.Tie as tie
+use Rattle.fields.proofs.columns.Statement.{statement}
+use Rattle.fields.proofs.columns.Tie as tie
 
 left-column-requires : tie.Need-left-column-requires
 left-column-requires c κs = search needs
