@@ -10,9 +10,12 @@ ghost use lib.ListN.{length, getD};
 ghost use Rattle.ternary.specs.Bits.{digit};
 ghost use Rattle.ternary.specs.Lists.{table};
 ghost use Rattle.net.specs.Limits.{mostVertices};
+ghost use Rattle.net.specs.Tables.{storageFlags, inputLabels};
 ghost use Rattle.net.specs.Excitation.{excitationOf};
 ghost use Rattle.lanes.specs.Lanes.{assignments};
+ghost use Rattle.lanes.specs.Lanes as lane-spec;
 ghost use Rattle.excitations.specs.Fit.{Fit};
+ghost use Rattle.excitations.specs.Conditions.{signalPlaces};
 ghost use Rattle.excitations.specs.Excitations.{excitationLanes, fightLanes};
 
 // n0, c0: an n-connection, a connection to 0. p1, c1: a p-connection, a connection to 1.
@@ -64,6 +67,27 @@ fn meet<'a, 'b>(
     }
 }
 
+// Both tables, from the tables of the graph, the places of the signals and the columns.
+fn fill_from<'a, 'b>(
+    net: Net,
+    storage: &'b [u8; Net::VERTEX_PLACES],
+    inputs: &'b [u16; Net::VERTEX_PLACES],
+    places: &'b [u8; Net::SYMBOL_PLACES],
+    columns: &'b [u8; Net::COLUMN_LANES],
+    excitations: &'a mut [u8; Net::VERTEX_LANES],
+    fights: &'a mut [u8; Net::VERTEX_LANES],
+)
+    requires { ⌜ Fit net × (now storage ≡ storageFlags net) × (now inputs ≡ inputLabels net) × (now places ≡ signalPlaces net) × (now columns ≡ lane-spec.columns) × (length (now excitations) ≡ suc mostVertices * assignments) × (length (now fights) ≡ suc mostVertices * assignments) ⌝ }
+    ensures { λ r. ⌜ (now (excitations .exit) ≡ excitationLanes net) × (now (fights .exit) ≡ fightLanes net) ⌝ }
+{
+    let c0 = connections::connected_lanes(net, storage, inputs, places, columns, Kind::Any, 0);
+    let c1 = connections::connected_lanes(net, storage, inputs, places, columns, Kind::Any, 1);
+    let n0 = connections::connected_lanes(net, storage, inputs, places, columns, Kind::NType, 0);
+    let p1 = connections::connected_lanes(net, storage, inputs, places, columns, Kind::PType, 1);
+    combine(excitations, &n0, &c0, &p1, &c1);
+    meet(fights, &c0, &c1);
+}
+
 // The excitations and the fights of every storage vertex, at every assignment of its component's signals.
 pub fn fill<'a>(
     net: Net,
@@ -78,26 +102,13 @@ pub fn fill<'a>(
     let inputs = signals::input_labels(net);
     let places = conditions::signal_places(net, &storage, &labels);
     let columns = lanes::columns();
-    let c0 = connections::connected_lanes(net, &storage, &inputs, &places, &columns, Kind::Any, 0);
-    let c1 = connections::connected_lanes(net, &storage, &inputs, &places, &columns, Kind::Any, 1);
-    let n0 = connections::connected_lanes(
+    fill_from(
         net,
         &storage,
         &inputs,
         &places,
         &columns,
-        Kind::NType,
-        0,
+        excitations,
+        fights,
     );
-    let p1 = connections::connected_lanes(
-        net,
-        &storage,
-        &inputs,
-        &places,
-        &columns,
-        Kind::PType,
-        1,
-    );
-    combine(excitations, &n0, &c0, &p1, &c1);
-    meet(fights, &c0, &c1);
 }
