@@ -1,13 +1,11 @@
 //! The signals of a component: the letters and key nodes on the edges that touch it, and the letters of the input vertices that these
 //! edges touch. Types, definitions and laws are those of the crate `net`.
-use net::Edge;
 use net::Net;
 use net::Symbol;
 ghost use mathlib.Core.Path.{_≡_};
 ghost use mathlib.Core.Bool.{true, cond, _&&_};
 ghost use Prim.Native.Nat.{_≤_};
 ghost use lib.Dec.{eqb};
-ghost use lib.ListN.{getD};
 ghost use Rattle.net.specs.Limits.{mostVertices};
 ghost use Rattle.net.specs.Graph.{isStorage};
 ghost use Rattle.net.specs.SignalTable.{signalCount};
@@ -33,20 +31,14 @@ pub fn input_labels(net: Net) -> [u16; Net::VERTEX_PLACES]
     labels
 }
 
-// Is v a storage vertex of the component labelled `mine`?
-fn belongs<'a>(
-    storage: &'a [u8; Net::VERTEX_PLACES],
-    labels: &'a [u8; Net::VERTEX_PLACES],
-    mine: u8,
-    v: u8,
-) -> bool
-    requires { ⌜ v ≤ mostVertices ⌝ }
-    ensures { λ r. ⌜ r ≡ (eqb (getD (now (storage .entry)) v 0) 1 && eqb mine (getD (now (labels .entry)) v 0)) ⌝ }
+// Is a vertex with this flag and label a storage vertex of the component labelled `mine`?
+fn belongs(storage: u8, label: u8, mine: u8) -> bool
+    ensures { λ r. ⌜ r ≡ (eqb storage 1 && eqb mine label) ⌝ }
 {
-    if storage[v as usize] != 1 {
+    if storage != 1 {
         return false;
     }
-    mine == labels[v as usize]
+    mine == label
 }
 
 // A symbol's flag is set, if it is a variable.
@@ -68,21 +60,6 @@ fn mark_end(flags: &mut [u8; Symbol::BOUND], member: bool, symbol: u16, label: u
     }
 }
 
-// What an edge adds, by its first end and then by its second, where these are members.
-fn mark_edge<'a, 'b>(
-    flags: &'a mut [u8; Symbol::BOUND],
-    inputs: &'b [u16; Net::VERTEX_PLACES],
-    edge: Edge,
-    first: bool,
-    second: bool,
-)
-    requires { ⌜ (edge .end1 ≤ mostVertices) × (edge .end2 ≤ mostVertices) ⌝ }
-    ensures { λ r. ⌜ now (flags .exit) ≡ markEnd second (edge .symbol) (getD (now (inputs .entry)) (edge .end1) 0) (markEnd first (edge .symbol) (getD (now (inputs .entry)) (edge .end2) 0) (now (flags .entry))) ⌝ }
-{
-    mark_end(flags, first, edge.symbol, inputs[edge.end2 as usize]);
-    mark_end(flags, second, edge.symbol, inputs[edge.end1 as usize]);
-}
-
 // 1 at each signal of y's component, by symbol number.
 pub fn signal_flags<'a>(
     net: Net,
@@ -99,9 +76,20 @@ pub fn signal_flags<'a>(
     let count = net.edge_count as usize;
     for i in 0..count {
         let edge = net.edges[i];
-        let first = belongs(storage, labels, mine, edge.end1);
-        let second = belongs(storage, labels, mine, edge.end2);
-        mark_edge(&mut flags, &inputs, edge, first, second);
+        let u = edge.end1 as usize;
+        let v = edge.end2 as usize;
+        mark_end(
+            &mut flags,
+            belongs(storage[u], labels[u], mine),
+            edge.symbol,
+            inputs[v],
+        );
+        mark_end(
+            &mut flags,
+            belongs(storage[v], labels[v], mine),
+            edge.symbol,
+            inputs[u],
+        );
     }
     flags
 }

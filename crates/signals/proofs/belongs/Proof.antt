@@ -1,20 +1,13 @@
 -- `signals::belongs` meets its contract. Assumes nothing.
-use borrow.Author.Needs.{needs}
 use borrow.Author.Tests.{eq-eqb, ne-eqb}
 use Rattle.signals.proofs.belongs.Statement.{statement}
 use Rattle.signals.proofs.belongs.Tie as tie
 
-element-copy-out-if1 : tie.Need-element-copy-out-if1
-element-copy-out-if1 c = search needs
-
 returns : tie.Need-returns
 returns c = simp (ne-eqb _ _ (c .if1 .taken))
 
-element-copy-out-result : tie.Need-element-copy-out-result
-element-copy-out-result c = search needs
-
 returns-2 : tie.Need-returns-2
-returns-2 c = simp (eq-eqb _ _ (c .before .if1 .left))
+returns-2 c = simp (eq-eqb _ _ (c .if1 .left))
 
 pub belongs-spec : {M : Type 1} → statement M
-belongs-spec = tie.close (tie.spec element-copy-out-if1 returns element-copy-out-result returns-2)
+belongs-spec = tie.close (tie.spec returns returns-2)

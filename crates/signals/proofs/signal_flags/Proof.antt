@@ -1,7 +1,7 @@
 -- `signals::signal_flags` meets its contract: the flags are those of the signals that the first i edges show. Assumes nothing.
 use native.Mathlib.Omega.{arith}
 use borrow.Author.Needs.{needs}
-use mathlib.Core.Path.{_≡_, refl, _∙_}
+use mathlib.Core.Path.{_≡_, _∙_}
 use Prim.Native.Nat.{_≤_, _-_}
 use lib.ListN.{getD}
 use Rattle.net.specs.Limits.{mostVertices}
@@ -42,14 +42,47 @@ mul-edge c = omega (arith, c .before .before .before .before .pre .0 .readable .
 element-copy-out-edge : tie.Need-element-copy-out-edge Inv-loop μ-loop
 element-copy-out-edge c = omega (arith, c .before .before .before .before .pre .0 .readable .edges)
 
+cast-u : tie.Need-cast-u Inv-loop μ-loop
+cast-u c = omega (arith, ends (c .before .before))
+
+cast-v : tie.Need-cast-v Inv-loop μ-loop
+cast-v c = omega (arith, ends (c .before .before .before))
+
+element-copy-out-belongs : tie.Need-element-copy-out-belongs Inv-loop μ-loop
+element-copy-out-belongs c = omega (arith, ends (c .before .before .before .before))
+
+element-copy-out-belongs-2 : tie.Need-element-copy-out-belongs-2 Inv-loop μ-loop
+element-copy-out-belongs-2 c = omega (arith, ends (c .before .before .before .before .before))
+
 belongs-requires : tie.Need-belongs-requires Inv-loop μ-loop
-belongs-requires c κs = ends (c .before) .0
+belongs-requires c κs = search needs
+
+mul-mark-end : tie.Need-mul-mark-end Inv-loop μ-loop
+mul-mark-end c = omega (arith, ends (c .before .before .before .before .before .before .before))
+
+array-read-mark-end : tie.Need-array-read-mark-end Inv-loop μ-loop
+array-read-mark-end c = omega (arith, ends (c .before .before .before .before .before .before .before))
+
+mark-end-requires : tie.Need-mark-end-requires Inv-loop μ-loop
+mark-end-requires c κs = search needs
+
+element-copy-out-belongs-3 : tie.Need-element-copy-out-belongs-3 Inv-loop μ-loop
+element-copy-out-belongs-3 c = omega (arith, ends (c .before .before .before .before .before .before .before .before .before))
+
+element-copy-out-belongs-4 : tie.Need-element-copy-out-belongs-4 Inv-loop μ-loop
+element-copy-out-belongs-4 c = omega (arith, ends (c .before .before .before .before .before .before .before .before .before .before))
 
 belongs-requires-2 : tie.Need-belongs-requires-2 Inv-loop μ-loop
-belongs-requires-2 c κs = ends (c .before .before) .1
+belongs-requires-2 c κs = search needs
 
-mark-edge-requires : tie.Need-mark-edge-requires Inv-loop μ-loop
-mark-edge-requires c κs = ends (c .before .before .before .before .before)
+mul-mark-end-2 : tie.Need-mul-mark-end-2 Inv-loop μ-loop
+mul-mark-end-2 c = omega (arith, ends (c .before .before .before .before .before .before .before .before .before .before .before .before))
+
+array-read-mark-end-2 : tie.Need-array-read-mark-end-2 Inv-loop μ-loop
+array-read-mark-end-2 c = omega (arith, ends (c .before .before .before .before .before .before .before .before .before .before .before .before))
+
+mark-end-requires-2 : tie.Need-mark-end-requires-2 Inv-loop μ-loop
+mark-end-requires-2 c κs = search needs
 
 add-i : tie.Need-add-i Inv-loop μ-loop
 add-i c = search needs
@@ -60,16 +93,16 @@ loop-less c = search needs
 loop-again : tie.Need-loop-again Inv-loop μ-loop
 unfolding edgeAt
 loop-again c =
-    let t = c .before .before .before .before .before .before in
+    let t = c .before .before .before .before .before .before .before .before .before .before .before .before .before in
     let s = t .before .before .before .before in
     let member = member-test (s .args .t1) (s .args .y) (s .args .storage .now) (s .args .labels .now) (s .pre .0) (s .pre .1) in (
       search needs,
       signal-turn (s .args .t1) (s .args .y) (t .before .loop .i) (t .before .loop .inv .1) (ends t .0) (ends t .1)
           (t .before .before .before .input-labels .ensures)
-          (c .before .before .before .before .belongs .ensures ∙ member _ (ends t .0))
-          refl
-          (c .before .before .before .belongs2 .ensures ∙ member _ (ends t .1))
-          (c .mark-edge .ensures),
+          (c .before .before .before .before .before .before .belongs .ensures ∙ member _ (ends t .0))
+          (c .before .before .before .before .before .mark-end .ensures)
+          (c .before .belongs2 .ensures ∙ member _ (ends t .1))
+          (c .mark-end2 .ensures),
     )
 
 returns : tie.Need-returns Inv-loop μ-loop
@@ -90,9 +123,20 @@ signal-flags-spec =
     loop-holds
     mul-edge
     element-copy-out-edge
+    cast-u
+    cast-v
+    element-copy-out-belongs
+    element-copy-out-belongs-2
     belongs-requires
+    mul-mark-end
+    array-read-mark-end
+    mark-end-requires
+    element-copy-out-belongs-3
+    element-copy-out-belongs-4
     belongs-requires-2
-    mark-edge-requires
+    mul-mark-end-2
+    array-read-mark-end-2
+    mark-end-requires-2
     add-i
     loop-less
     loop-again
