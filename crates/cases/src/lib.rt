@@ -1,11 +1,8 @@
-//! What the test programs share: how a case is laid out in their input, and what they print in the same way. A number has four columns, or three
-//! times four where it may be large. A case may bring the sheet for the cases after it.
+//! How a case of the test programs is laid out in their input. A number has four columns, or three times four where it may be large. A case may bring
+//! the sheet for the cases after it.
 
 ghost use mathlib.Core.Path.{_≡_};
-ghost use lib.ListN.{length};
 ghost use Rattle.cases.specs.Input.{partOf, numberAt, threeFields, largeAt, noteOf, dataOf, nextOf, inForce};
-use libc::STDOUT_FILENO;
-use sheet::Answer;
 use sheet::Field;
 use sheet::Sheet;
 
@@ -35,16 +32,6 @@ impl Case {
     const DATA_SIZE: usize = Case::FIFTH + Case::NUMBER_WIDTH;
 
     const NOTE: usize = Case::DATA_SIZE + Case::NUMBER_WIDTH;
-
-    // The most bytes of the input.
-    pub const MOST_INPUT: usize = 256000;
-}
-
-// The buffer for the input. The clause tells its length, which lending a part needs.
-pub fn input_buffer() -> [u8; Case::MOST_INPUT]
-    ensures { λ r. do ⌜ (← ⟦Case::MOST_INPUT⟧ .entry) ≡ length r ⌝ }
-{
-    [0; Case::MOST_INPUT]
 }
 
 // Some bytes of the input; none where they are not all there.
@@ -147,23 +134,4 @@ pub fn case_in_force(input: &[u8], at: usize, before: usize) -> usize
         return at;
     }
     before
-}
-
-// A number in four columns.
-pub fn print_column(n: u64) {
-    let text = fields::columns(n);
-    io::write_all(STDOUT_FILENO, &text);
-}
-
-// A number and its place.
-pub fn print_place(answer: Answer) {
-    print_column(answer.number as u64);
-    print_column(answer.place as u64);
-}
-
-// The note of the case at a place, which ends what is printed for it.
-pub fn print_note(input: &[u8], at: usize) {
-    io::write_all(STDOUT_FILENO, b" ");
-    io::write_all(STDOUT_FILENO, note_of(input, at));
-    io::write_all(STDOUT_FILENO, b"\n");
 }

@@ -8,14 +8,14 @@ ghost use Rattle.io.specs.Counts.{Counts};
 use cases::Case;
 use cases::case_in_force;
 use cases::data_of;
-use cases::input_buffer;
 use cases::large_at;
 use cases::next_case;
-use cases::print_note;
 use libc::STDIN_FILENO;
 use libc::STDOUT_FILENO;
 use output::Report;
 use output::Written;
+use printing::input_buffer;
+use printing::print_note;
 use sheet::Sheet;
 
 // The lines of the jobs that one call takes.

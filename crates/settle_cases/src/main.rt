@@ -8,15 +8,15 @@ ghost use Rattle.io.specs.Counts.{Counts};
 use cases::Case;
 use cases::case_in_force;
 use cases::data_of;
-use cases::input_buffer;
 use cases::large_at;
 use cases::next_case;
-use cases::print_column;
-use cases::print_note;
-use cases::print_place;
 use libc::STDIN_FILENO;
 use libc::STDOUT_FILENO;
 use net::Net;
+use printing::input_buffer;
+use printing::print_column;
+use printing::print_note;
+use printing::print_place;
 use ternary::Signal;
 
 // The buffers that calls are lent.

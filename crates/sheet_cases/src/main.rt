@@ -5,14 +5,14 @@ ghost use Prim.Native.Nat.{_<_};
 ghost use lib.ListN.{length};
 use cases::Case;
 use cases::data_of;
-use cases::input_buffer;
 use cases::large_at;
 use cases::next_case;
-use cases::print_column;
-use cases::print_note;
-use cases::print_place;
 use libc::STDIN_FILENO;
 use lines::jobs;
+use printing::input_buffer;
+use printing::print_column;
+use printing::print_note;
+use printing::print_place;
 use sheet::JobLine;
 
 // A sheet: number, place, and whether the record is one.
