@@ -108,12 +108,12 @@ pub fn usable_lanes<'a, 'b>(
     let count = net.edge_count as usize;
     for i in 0..count {
         let edge = net.edges[i];
-        let y = lanes::chosen(edge.end2, edge.end1, storage[edge.end1 as usize]) as usize;
+        let y = lane_rows::chosen(edge.end2, edge.end1, storage[edge.end1 as usize]) as usize;
         if storage[y] == 1 {
             let p = places[y * Symbol::BOUND + edge.symbol as usize];
             let low = usable_at(kind, edge.form, edge.symbol, 0);
             let high = usable_at(kind, edge.form, edge.symbol, 1);
-            lanes::choose_row(on, i, columns, p as usize, low, high);
+            lane_rows::choose_row(on, i, columns, p as usize, low, high);
         }
     }
 }

@@ -40,14 +40,14 @@ fn driven<'a>(
     for i in 0..count {
         let edge = net.edges[i];
         let flag = storage[edge.end1 as usize];
-        let y = lanes::chosen(edge.end2, edge.end1, flag) as usize;
-        let x = lanes::chosen(edge.end1, edge.end2, flag) as usize;
+        let y = lane_rows::chosen(edge.end2, edge.end1, flag) as usize;
+        let x = lane_rows::chosen(edge.end1, edge.end2, flag) as usize;
         if storage[y] == 1 && storage[x] != 1 {
             let label = inputs[x];
             let p = places[y * Symbol::BOUND + label as usize];
             let low = label_hits(label, 0, value);
             let high = label_hits(label, 1, value);
-            lanes::mark_row(&mut marks, y, on, i, columns, p as usize, low, high);
+            lane_marks::mark_row(&mut marks, y, on, i, columns, p as usize, low, high);
         }
     }
     marks
@@ -65,11 +65,11 @@ fn carry<'a, 'b>(
     requires { ⌜ (u ≤ mostVertices) × (v ≤ mostVertices) × (i < mostEdges) ⌝ }
     ensures { λ r. ⌜ (now (marks .exit) ≡ spec.carry (now (on .entry)) i u v (now (marks .entry))) × (r ≡ lane-spec.level (now (on .entry)) i (now (marks .entry)) u v) ⌝ }
 {
-    if lanes::is_level(marks, u, v, on, i) {
+    if lane_marks::is_level(marks, u, v, on, i) {
         return true;
     }
-    lanes::raise_row(marks, u, v, on, i);
-    lanes::raise_row(marks, v, u, on, i);
+    lane_marks::raise_row(marks, u, v, on, i);
+    lane_marks::raise_row(marks, v, u, on, i);
     false
 }
 

@@ -15,7 +15,7 @@ pub(crate) fn ternary_tables(
     requires { ⌜ Fit net × (now excitations ≡ excitationLanes net) ⌝ }
     ensures { λ r. ⌜ r ≡ ternaryTables net ⌝ }
 {
-    let keys = weights::key_vertices(net);
+    let keys = key_vertices::key_vertices(net);
     growth::tables(net, &keys, excitations)
 }
 
@@ -27,6 +27,6 @@ pub(crate) fn additions(net: Net) -> [u16; Net::ADDITIONS]
     let storage = tables::storage_flags(net);
     let labels = tables::component_labels(net, &storage);
     let places = conditions::signal_places(net, &storage, &labels);
-    let keys = weights::key_vertices(net);
+    let keys = key_vertices::key_vertices(net);
     additions::additions(net, &storage, &labels, &places, &keys)
 }

@@ -101,7 +101,7 @@ pub fn fill<'a>(
     let labels = tables::component_labels(net, &storage);
     let inputs = signals::input_labels(net);
     let places = conditions::signal_places(net, &storage, &labels);
-    let columns = lanes::columns();
+    let columns = lane_rows::columns();
     fill_from(
         net,
         &storage,
