@@ -1,4 +1,4 @@
-"""How the generators store the cases of their test programs.
+"""How the generators collect and store the cases of their test programs.
 
 A case in the input: its kind (one byte), the length of its note in four columns, then five numbers and the length of its data in three fields of
 four columns each, four decimal digits to a field; then the note and the data. Numbers that a case does not need are 0.
@@ -11,15 +11,21 @@ NUMBERS = 5
 # The test programs read no more bytes.
 MOST_INPUT = 256000
 
+CASES = []
+
+
+def case(kind, answer, note, numbers=(), data=b""):
+    CASES.append((kind, numbers, data, answer, note))
+
 
 def laid_out(kind, numbers, data, text):
     return kind + field(len(text)) + b"".join(large(n) for n in (*numbers, *[0] * NUMBERS)[:NUMBERS]) + large(len(data)) + text + data
 
 
-def store(program, cases):
+def store(program):
     """Writes the input and the expected output of a program: each case by its kind, its numbers and its data, and its answer before its note."""
     given, wanted = b"", b""
-    for kind, numbers, data, answer, note in cases:
+    for kind, numbers, data, answer, note in CASES:
         text = note.encode()
         given += laid_out(kind, numbers, data, text)
         wanted += answer + b" " + text + b"\n"

@@ -16,10 +16,10 @@ The first number of a case is the size of the jobs (M) or of the buffer (O, P), 
 from piece to piece as the program `settle` does. What it reads of its files is not tested here.
 """
 import settle_model
-from case_files import store
+import case_files
+from case_files import CASES, store
 from sheets import *
 
-CASES = []
 NET = None  # the model of the sheet in force; none under a number of the reader
 WIDTH = 0  # its h
 
@@ -33,7 +33,7 @@ PIECE_ROOM = 143319  # as many lines of 43 bytes, those of twelve key nodes
 
 
 def case(kind, answer, note, numbers=(), data=b""):
-    CASES.append((kind, numbers, data, answer.encode(), note))
+    case_files.case(kind, answer.encode(), note, numbers, data)
 
 
 def opening(refusal, place, h):
@@ -268,4 +268,4 @@ net("a component with nine signals, eight letters and vertex 3: h is 0", sheet(
 unread("after 23 no line of jobs", X[0])
 
 if __name__ == "__main__":
-    store("report_cases", CASES)
+    store("report_cases")

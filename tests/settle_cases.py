@@ -17,16 +17,11 @@ sheet or jobs. States are written here as in the papers, the first letter or key
 no states. The two bench examples on the NOR gate's inner vertex ask for an excitation, and stand in verdict_cases.py.
 """
 import settle_model
-from case_files import store
+from case_files import case, store
 from sheets import *
 
-CASES = []
 UNTOUCHED = settle_model.UNTOUCHED
 NET = None  # the model of the sheet in force
-
-
-def case(kind, answer, note, numbers=(), data=b""):
-    CASES.append((kind, numbers, data, answer, note))
 
 
 def net(note, data, refusal=0, place=0):
@@ -392,4 +387,4 @@ refuses_all(41, b"", "41 for an empty batch too", (1, 1))
 refuses_all(41, job(0, 0, 0), "41 with room enough", (2, 3))
 
 if __name__ == "__main__":
-    store("settle_cases", CASES)
+    store("settle_cases")

@@ -7,7 +7,7 @@ output of the test program `sheet_cases`. The expected numbers are worked out he
 The kinds of cases: S a sheet, L one line of a sheet, whose number the case has, J a job line. The program prints an answer and the note on a line for
 each.
 """
-from case_files import store
+from case_files import case, store
 from sheets import field, line
 
 
@@ -51,20 +51,19 @@ def seven(*more):
 
 
 ONE = line(*HEADER)
-CASES = []
 
 
 def read(number, place, note, data):
     """A sheet's number and place; an accepted record is a record, and the empty one that a refusal gives is none."""
-    CASES.append((b"S", (), data, field(number) + field(place) + field(1 if number == 0 else 0), note))
+    case(b"S", field(number) + field(place) + field(1 if number == 0 else 0), note, data=data)
 
 
 def one_line(number, length, note, n, data):
-    CASES.append((b"L", (n,), data, field(number) + field(length), note))
+    case(b"L", field(number) + field(length), note, (n,), data)
 
 
 def job(answer, note, data):
-    CASES.append((b"J", (), data, b"".join(field(n) for n in answer), note))
+    case(b"J", b"".join(field(n) for n in answer), note, data=data)
 
 
 read(0, 0, "the worked example is accepted", worked())
@@ -164,4 +163,4 @@ job((46, 0, 0, 0), "row 46: last field 1", line(4, 0, 1, 1, 1))
 job((46, 0, 0, 0), "row 46: a leading zero", b"   4  00   1   1   0\n")
 job((46, 0, 0, 0), "row 46: without byte 10", b"   4   0   1   1   0 ")
 
-store("sheet_cases", CASES)
+store("sheet_cases")

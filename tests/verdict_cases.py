@@ -14,16 +14,11 @@ The kinds of cases, and what the program prints for each before the note:
 The numbers of a case are the input state, the key state and the vertex; its data are a sheet. The report's networks stand in sheets.py; the notes say which sentence of the report a sheet is made to satisfy.
 """
 import settle_model
-from case_files import store
+from case_files import case, store
 from sheets import *
 
-CASES = []
 NET = None  # the model of the sheet in force; none under a refusal
 MOST_SIGNALS = 14  # letters and key nodes together, for the model's verdict
-
-
-def case(kind, answer, note, numbers=(), data=b""):
-    CASES.append((kind, numbers, data, answer, note))
 
 
 def net(note, data, refusal=0, place=0):
@@ -438,4 +433,4 @@ excitation(42, 0, "42 before 43 and 48", 4, 4, 0)
 excitation(42, 0, "42 before 48", 4, 0, 7)
 excitation(43, 0, "43 before 48", 0, 4, 0)
 
-store("verdict_cases", CASES)
+store("verdict_cases")
