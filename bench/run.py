@@ -22,7 +22,7 @@ from nets import NETS
 PROGRAMS = HERE.parent / "target" / "bin"
 MOST_JOBS = 9999
 COUNTS = (100, 1000, MOST_JOBS)
-WITH_JOBS = ("small", "limits", "chain", "chain, other order", "key chain")
+WITH_JOBS = ("small", "limits", "chain", "chain, other order", "chain, zigzag", "key chain")
 LINE = 21
 
 
