@@ -1,5 +1,4 @@
 //! What each signal adds to the index of each key node's ternary table. Definitions and laws are those of the crate `lookups`.
-use graph::tables;
 use net::Net;
 use ternary::Signal;
 ghost use mathlib.Core.Path.{_≡_};
@@ -36,7 +35,7 @@ pub fn additions<'a>(
     ensures { λ r. ⌜ r ≡ spec.additions net ⌝ }
 {
     let mut sums = [0u16; Net::ADDITIONS];
-    let count = tables::key_count(net);
+    let count = graph::key_count(net);
     for k in 0..count {
         let list = weights::weights_in(
             net,

@@ -1,5 +1,4 @@
 //! The jobs of a batch, each on its own bytes.
-use lines::jobs;
 use net::Net;
 use settlements::Settling;
 use sheet::Answer;
@@ -27,7 +26,7 @@ fn job<'a, 'b>(
     requires { ⌜ Ready net h (now tables) (now additions) × (length (now own) ≡ jobWidth net) ⌝ }
     ensures { λ s. ⌜ settlement s (take (keyCount net) (now (own .exit))) (drop (keyCount net) (now (own .exit))) ≡ jobSettlement net (jobOf (now (line .entry))) (now (own .entry)) ⌝ }
 {
-    let JobLine::Asked(old, new, start) = jobs::job(line) else {
+    let JobLine::Asked(old, new, start) = line_values::job(line) else {
         return job_tests::refused(Answer::NO_JOB, 0);
     };
     let letters = net.letter_count as usize;

@@ -1,5 +1,4 @@
 //! Condition C1, read off the rows of the key nodes. Definitions and laws are those of the crates `excitations` and `troubles`.
-use graph::tables;
 use net::Net;
 use sheet::Found;
 ghost use mathlib.Core.Path.{_≡_};
@@ -76,7 +75,7 @@ pub fn lowest_break<'a>(
     ensures { λ r. ⌜ (r ≡ foundOf (placeC1 net)) × (now (excitations .exit) ≡ excitationLanes net) × (now (fights .exit) ≡ fightLanes net) ⌝ }
 {
     vertex_rows::fill(net, excitations, fights);
-    let storage = tables::storage_flags(net);
-    let keys = tables::key_flags(net, &storage);
+    let storage = graph::storage_flags(net);
+    let keys = graph::key_flags(net, &storage);
     lowest_in_rows(net, &keys, excitations)
 }

@@ -10,7 +10,6 @@ ghost use Rattle.sheet.specs.Checked.{Checked};
 ghost use Rattle.sheet.specs.Graph.{overSignals, signalPlace};
 ghost use Rattle.sheet.specs.Search.{foundOf, joinsLower};
 use crate::tests::both;
-use graph::tables;
 use net::Net;
 use sheet::Found;
 
@@ -78,7 +77,7 @@ pub(crate) fn signal_row(net: Net) -> Found
     requires { ⌜ Checked net ⌝ }
     ensures { λ r. ⌜ r ≡ foundOf (signalPlace net) ⌝ }
 {
-    let storage = tables::storage_flags(net);
-    let labels = tables::component_labels(net, &storage);
+    let storage = graph::storage_flags(net);
+    let labels = component_labels::component_labels(net, &storage);
     signal_place(net, &storage, &labels)
 }

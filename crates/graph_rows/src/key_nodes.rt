@@ -7,7 +7,6 @@ ghost use Rattle.net.specs.Tables.{keyFlags};
 ghost use Rattle.sheet.specs.Checked.{Checked};
 ghost use Rattle.sheet.specs.Graph.{keyPlace};
 ghost use Rattle.sheet.specs.Search.{foundOf};
-use graph::tables;
 use net::Net;
 use sheet::Found;
 
@@ -41,7 +40,7 @@ pub(crate) fn key_row(net: Net) -> Found
     requires { ⌜ Checked net ⌝ }
     ensures { λ r. ⌜ r ≡ foundOf (keyPlace net) ⌝ }
 {
-    let storage = tables::storage_flags(net);
-    let keys = tables::key_flags(net, &storage);
+    let storage = graph::storage_flags(net);
+    let keys = graph::key_flags(net, &storage);
     key_place(net, &keys)
 }

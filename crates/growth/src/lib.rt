@@ -1,5 +1,4 @@
 //! Ternary tables, grown from truth tables. Definitions are those of the crates `ternary` and `lookups`.
-use graph::tables;
 use net::Net;
 use ternary::Signal;
 ghost use mathlib.Core.Path.{_≡_};
@@ -30,7 +29,7 @@ fn join(out: &mut [u8], third: usize)
 }
 
 // A table over n ternary variables from one over n binary ones.
-pub fn grow(table: &[u8], out: &mut [u8], n: u8)
+fn grow(table: &[u8], out: &mut [u8], n: u8)
     requires { ⌜ (length (now table) ≡ 2 ^ n) × (length (now out) ≡ signalKinds ^ n) ⌝ }
     ensures { λ r. ⌜ now (out .exit) ≡ grow n (now (table .entry)) ⌝ }
 {
@@ -55,7 +54,7 @@ pub fn tables<'a>(
     requires { ⌜ Fit net × (now keys ≡ keyVertices net) × (now excitations ≡ excitationLanes net) ⌝ }
     ensures { λ r. ⌜ r ≡ ternaryTables net ⌝ }
 {
-    let count = tables::key_count(net);
+    let count = graph::key_count(net);
     // Parts are taken of a slice.
     let lanes = &excitations[..];
     let mut rows = [0u8; Net::TERNARY_TABLES];

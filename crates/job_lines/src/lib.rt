@@ -1,40 +1,23 @@
-//! The lines of the program's output in code: the first line, the line of a job, and those of many jobs in turn. Each is written to a lent
-//! part of just its size. Definitions and limits are those of the crate `output`.
+//! The lines of jobs in code: the line of one job, and those of many in turn. Each is written to a lent part of just its size. Definitions and limits
+//! are those of the crate `output`.
 
 ghost use mathlib.Core.Path.{_≡_};
 ghost use mathlib.Core.List.{_++_};
 ghost use Prim.Native.Nat.{_+_, _*_, _^_, _≤_, _<_};
 ghost use lib.ListN.{length, drop};
 ghost use Rattle.net.specs.Limits.{mostKeyNodes};
-ghost use Rattle.sheet.specs.Rows.{answer};
 ghost use Rattle.settlements.specs.Batch.{answerWidth};
-ghost use Rattle.output.specs.Limits.{openingBytes, jobBytes};
+ghost use Rattle.output.specs.Limits.{jobBytes};
 ghost use Rattle.output.specs.Text.{jobText, jobTexts};
-ghost use Rattle.output.specs.Output.{firstLine};
-use line_parts::numbers;
-use line_parts::vectors;
+use output::Report;
 use settlements::Settling;
-use sheet::Sheet;
-
-// What each line opens with.
-const FOUR_FIELDS: usize = 4 * Sheet::FIELD_WIDTH;
-
-// The first line: 0, a number, its place, and h.
-pub fn write_first_line(out: &mut [u8], number: u8, place: u16, h: usize)
-    requires { ⌜ length (now out) ≡ openingBytes ⌝ }
-    ensures { λ _. ⌜ now (out .exit) ≡ firstLine (answer number place) h ⌝ }
-{
-    let end = FOUR_FIELDS;
-    numbers::write_four(&mut out[..end], 0, number as u64, place as u64, h as u64);
-    out[end] = Sheet::LINE_END;
-}
 
 // The bytes of a job's line.
 pub fn job_bytes(h: usize) -> usize
     requires { ⌜ h ≤ mostKeyNodes ⌝ }
     ensures { λ r. ⌜ r ≡ jobBytes h ⌝ }
 {
-    FOUR_FIELDS + 2 * h + 3
+    Report::FOUR_FIELDS + 2 * h + 3
 }
 
 // The line of a job: its number n, its three answer bytes, its r and its t.
@@ -45,15 +28,15 @@ fn write_job<'a, 'b>(out: &'a mut [u8], h: usize, n: usize, three: &'b [u8], own
     let number = three[0];
     let first_steps = three[1];
     let second_steps = three[2];
-    let end = FOUR_FIELDS;
-    numbers::write_four(
+    let end = Report::FOUR_FIELDS;
+    line_numbers::write_four(
         &mut out[..end],
         n as u64,
         number as u64,
         first_steps as u64,
         second_steps as u64,
     );
-    vectors::write_both(&mut out[end..], h, number, own);
+    line_vectors::write_both(&mut out[end..], h, number, own);
 }
 
 // The lines of so many jobs, the first of them numbered `first`, to the front of a buffer. `at`, `from` and `place` are where the next job's line, results and answer start.

@@ -1,4 +1,4 @@
-//! The text that the program writes: definitions and laws, from the bytes of its two files to the bytes of its output. The code is in the crates `job_lines` and `report`.
+//! The text that the program writes: definitions and laws, from the bytes of its two files to the bytes of its output. The code is in the crates over it, up to `report_opening` and `report_pieces`.
 use net::Net;
 use sheet::Answer;
 use sheet::Sheet;
@@ -26,11 +26,14 @@ impl Report {
     // Jobs that one call takes.
     pub const PIECE_JOBS: usize = 3333;
 
+    // What each line opens with.
+    pub const FOUR_FIELDS: usize = 4 * Sheet::FIELD_WIDTH;
+
     // The first line: four fields and its end.
-    pub const OPENING_BYTES: usize = 4 * Sheet::FIELD_WIDTH + 1;
+    pub const OPENING_BYTES: usize = Report::FOUR_FIELDS + 1;
 
     // The line of a job with the most key nodes: four fields, two blanks, two vectors and its end.
-    pub const MOST_JOB_BYTES: usize = 4 * Sheet::FIELD_WIDTH + 2 * Net::MOST_KEY_NODES + 3;
+    pub const MOST_JOB_BYTES: usize = Report::FOUR_FIELDS + 2 * Net::MOST_KEY_NODES + 3;
 
     pub const PIECE_BYTES: usize = Report::PIECE_JOBS * Report::MOST_JOB_BYTES;
 

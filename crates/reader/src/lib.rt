@@ -104,7 +104,7 @@ fn read_lines(sheet: &[u8], start: Net, count: usize) -> Reading
     let mut j: usize = 0;
     while j < count {
         let end = at + Sheet::LINE_WIDTH;
-        let LineRead::Five(line) = lines::lines::read_line(&sheet[at..end]) else {
+        let LineRead::Five(line) = line_values::read_line(&sheet[at..end]) else {
             return refusal(Answer::BAD_LINE, (j + 2) as u16);
         };
         let added = body::add_line(net, j, line);
@@ -126,7 +126,7 @@ pub fn read(sheet: &[u8]) -> Reading
     if !size_ok(size) {
         return refusal(Answer::BAD_LENGTH, 0);
     }
-    let LineRead::Five(header) = lines::lines::read_line(&sheet[0..Sheet::LINE_WIDTH]) else {
+    let LineRead::Five(header) = line_values::read_line(&sheet[0..Sheet::LINE_WIDTH]) else {
         return refusal(Answer::BAD_LINE, 1);
     };
     if !header_ok(header) {

@@ -86,7 +86,7 @@ fn print_ends(text: &[u8]) {
 // The first line of the output.
 fn print_opening(sheet: &[u8]) {
     let mut out = text_buffer();
-    let written = report::opening(sheet, &mut out);
+    let written = report_opening::opening(sheet, &mut out);
     let n = written_bytes(written, &out);
     io::write_all(STDOUT_FILENO, &out[..n]);
 }
@@ -116,7 +116,7 @@ fn print_piece<'a>(sheet: &'a [u8], jobs: &'a [u8], done: usize, whole: bool) ->
         return false;
     }
     let mut out = text_buffer();
-    let written = report::piece(sheet, (done + 1) as u32, lines, &mut out);
+    let written = report_pieces::piece(sheet, (done + 1) as u32, lines, &mut out);
     let n = written_bytes(written, &out);
     if n == 0 {
         return false;
@@ -207,13 +207,13 @@ fn print_lent(written: Written, out: &[u8]) {
 
 // The first line in a lent buffer.
 fn lend_opening<'a, 'b>(sheet: &'a [u8], out: &'b mut [u8]) {
-    let written = report::opening(sheet, out);
+    let written = report_opening::opening(sheet, out);
     print_lent(written, out);
 }
 
 // A piece in a lent buffer.
 fn lend_piece<'a, 'b>(sheet: &'a [u8], first: u32, lines: &'a [u8], out: &'b mut [u8]) {
-    let written = report::piece(sheet, first, lines, out);
+    let written = report_pieces::piece(sheet, first, lines, out);
     print_lent(written, out);
 }
 

@@ -1,5 +1,5 @@
 //! The program: reads the files `net` and `jobs` of the folder it is run in, and writes a first line for the net and a line for each job.
-//! What it writes is made by the crate `report`; here is only the reading and the writing.
+//! What it writes is made by the crates `report_opening` and `report_pieces`; here is only the reading and the writing.
 
 ghost use mathlib.Core.Path.{_≡_};
 ghost use lib.ListN.{length};
@@ -82,7 +82,7 @@ fn write_text(text: &[u8]) -> bool {
 // Writes the first line. Says whether the jobs are to be run.
 fn write_opening(sheet: &[u8]) -> bool {
     let mut out = opening_buffer();
-    let written = report::opening(sheet, &mut out);
+    let written = report_opening::opening(sheet, &mut out);
     let n = written_bytes(written, &out);
     write_text(&out[..n]) && goes_on(written)
 }
@@ -95,7 +95,7 @@ fn write_piece(sheet: &[u8], jobs: i32, first: u32) -> bool {
         return false;
     }
     let mut out = piece_buffer();
-    let written = report::piece(sheet, first, &lines[..size], &mut out);
+    let written = report_pieces::piece(sheet, first, &lines[..size], &mut out);
     let n = written_bytes(written, &out);
     write_text(&out[..n]) && size == LINES_BYTES
 }

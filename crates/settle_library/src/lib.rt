@@ -1,6 +1,5 @@
 //! The calls for C: numbers and byte slices alone, under names that begin with `settle_`. Further results go through lent numbers.
 
-use graph::tables;
 use output::Written;
 use sheet::Answer;
 ghost use mathlib.Core.Path.{_≡_};
@@ -14,7 +13,7 @@ ghost use Rattle.output.specs.ForC.{sheetBatch, sheetBatchOf, told, numbersOf, 
 pub extern "C" fn settle_verdict(sheet: &[u8], place: &mut u32, h: &mut u32) -> u32
     ensures { λ n. ⌜ judged (answer n (now (place .exit))) (now (h .exit)) ≡ judgedOf (now (sheet .entry)) ⌝ }
 {
-    let judged = report::judge(sheet);
+    let judged = report_opening::judge(sheet);
     let answer = judged.answer;
     *place = answer.place as u32;
     *h = judged.keys;
@@ -42,7 +41,7 @@ pub extern "C" fn settle_batch(
     }
     let net = reading.net;
     let whole = settling::batch(net, jobs, results, answers);
-    let keys = tables::key_count(net);
+    let keys = graph::key_count(net);
     *place = whole.place as u32;
     *h = keys as u32;
     whole.number as u32
@@ -73,7 +72,7 @@ fn tell(wrote: Written, written: &mut u32) -> u32
 pub extern "C" fn settle_opening(sheet: &[u8], out: &mut [u8], written: &mut u32) -> u32
     ensures { λ n. ⌜ textCall (told n (now (written .exit))) (now (out .exit)) ≡ openingCallOf (now (sheet .entry)) (now (out .entry)) ⌝ }
 {
-    let wrote = report::opening(sheet, out);
+    let wrote = report_opening::opening(sheet, out);
     tell(wrote, written)
 }
 
@@ -88,6 +87,6 @@ pub extern "C" fn settle_piece<'a, 'b>(
 ) -> u32
     ensures { λ n. ⌜ textCall (told n (now (written .exit))) (now (out .exit)) ≡ pieceCallOf (now (sheet .entry)) first (now (lines .entry)) (now (out .entry)) ⌝ }
 {
-    let wrote = report::piece(sheet, first, lines, out);
+    let wrote = report_pieces::piece(sheet, first, lines, out);
     tell(wrote, written)
 }

@@ -8,7 +8,6 @@ use cases::data_of;
 use cases::large_at;
 use cases::next_case;
 use libc::STDIN_FILENO;
-use lines::jobs;
 use printing::input_buffer;
 use printing::print_column;
 use printing::print_note;
@@ -25,13 +24,13 @@ fn print_reading(sheet: &[u8]) {
 
 // One line of a sheet: number, and how many bytes are handed back.
 fn print_line(sheet: &[u8], n: usize) {
-    print_column(lines::lines::line_answer(sheet, n) as u64);
-    print_column(lines::lines::line(sheet, n).len() as u64);
+    print_column(lines::line_answer(sheet, n) as u64);
+    print_column(lines::line(sheet, n).len() as u64);
 }
 
 // A job line: 0 and its three numbers, or 46 and zeros.
 fn print_job(bytes: &[u8]) {
-    match jobs::job(bytes) {
+    match line_values::job(bytes) {
         JobLine::Asked(old, new, start) => {
             print_column(0);
             print_column(old as u64);

@@ -2,7 +2,6 @@
 
 mod prepared;
 
-use graph::tables;
 use net::Net;
 use settlements::Settling;
 use sheet::Answer;
@@ -28,7 +27,7 @@ pub fn settle<'a, 'b>(
     requires { ⌜ (valid net ≡ true) × (placeC1 net ≡ none) × (now excitations ≡ excitationLanes net) ⌝ }
     ensures { λ s. ⌜ settlement s (now (r .exit)) (now (t .exit)) ≡ settleOf net old new start (now (r .entry)) (now (t .entry)) ⌝ }
 {
-    let h = tables::key_count(net);
+    let h = graph::key_count(net);
     let letters = net.letter_count as usize;
     let number = job_tests::state_number(letters, h, old, new, start);
     if number != 0 {
@@ -76,7 +75,7 @@ pub fn batch<'a, 'b>(
     requires { ⌜ (valid net ≡ true) × (placeC1 net ≡ none) × (now excitations ≡ excitationLanes net) ⌝ }
     ensures { λ a. ⌜ batched a (now (results .exit)) (now (answers .exit)) ≡ batchOf net (now (lines .entry)) (now (results .entry)) (now (answers .entry)) ⌝ }
 {
-    let h = tables::key_count(net);
+    let h = graph::key_count(net);
     let count = job_tests::job_count(lines);
     if job_tests::is_short(results.len(), count, Settling::VECTORS * h) {
         return Answer {

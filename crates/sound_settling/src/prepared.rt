@@ -1,5 +1,4 @@
 //! What a call prepares once, however many jobs it settles.
-use graph::tables;
 use net::Net;
 ghost use mathlib.Core.Path.{_≡_};
 ghost use Rattle.excitations.specs.Fit.{Fit};
@@ -24,9 +23,9 @@ pub(crate) fn additions(net: Net) -> [u16; Net::ADDITIONS]
     requires { ⌜ Fit net ⌝ }
     ensures { λ r. ⌜ r ≡ spec.additions net ⌝ }
 {
-    let storage = tables::storage_flags(net);
-    let labels = tables::component_labels(net, &storage);
-    let places = conditions::signal_places(net, &storage, &labels);
+    let storage = graph::storage_flags(net);
+    let labels = component_labels::component_labels(net, &storage);
+    let places = signal_places::signal_places(net, &storage, &labels);
     let keys = key_vertices::key_vertices(net);
     additions::additions(net, &storage, &labels, &places, &keys)
 }

@@ -20,7 +20,7 @@ use soundness::Excited;
 
 // The excitation of one vertex: 0 and the value, or the number and 0.
 fn print_excitation(net: Net, input: u32, key: u32, vertex: u32) {
-    match verdict::excitation(net, input, key, vertex) {
+    match vertex_excitation::excitation(net, input, key, vertex) {
         Excited::Value(v) => {
             print_column(0);
             print_column(v as u64);
@@ -34,7 +34,7 @@ fn print_excitation(net: Net, input: u32, key: u32, vertex: u32) {
 
 // The excitation of one vertex as a character: a hyphen where the vertex is not storage, a question mark for any other refusal.
 fn print_character(net: Net, input: u32, key: u32, vertex: u32) {
-    match verdict::excitation(net, input, key, vertex) {
+    match vertex_excitation::excitation(net, input, key, vertex) {
         Excited::Value(v) => {
             io::print_decimal(STDOUT_FILENO, v as u64);
         }

@@ -1,5 +1,4 @@
 //! The tables: excitations and fights of every storage vertex, in lanes. Definitions and laws are those of the crate `excitations`.
-use graph::tables;
 use net::Kind;
 use net::Net;
 ghost use mathlib.Core.Path.{_≡_};
@@ -97,10 +96,10 @@ pub fn fill<'a>(
     requires { ⌜ Fit net × (length (now excitations) ≡ suc mostVertices * assignments) × (length (now fights) ≡ suc mostVertices * assignments) ⌝ }
     ensures { λ r. ⌜ (now (excitations .exit) ≡ excitationLanes net) × (now (fights .exit) ≡ fightLanes net) ⌝ }
 {
-    let storage = tables::storage_flags(net);
-    let labels = tables::component_labels(net, &storage);
+    let storage = graph::storage_flags(net);
+    let labels = component_labels::component_labels(net, &storage);
     let inputs = signals::input_labels(net);
-    let places = conditions::signal_places(net, &storage, &labels);
+    let places = signal_places::signal_places(net, &storage, &labels);
     let columns = lane_rows::columns();
     fill_from(
         net,

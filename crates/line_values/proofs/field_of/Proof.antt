@@ -1,0 +1,40 @@
+-- `field_of` meets its contract: the part that it hands on is the field.
+use borrow.Author.Needs.{needs}
+use Rattle.sheet.specs.Line.{fieldAt}
+use Rattle.sheet.proofs.LineSteps.{part}
+use Rattle.line_values.proofs.field_of.Statement.{statement}
+use Rattle.line_values.proofs.field_of.Tie as tie
+
+mul-a : tie.Need-mul-a
+mul-a c = search needs
+
+add-e : tie.Need-add-e
+add-e c = search needs
+
+sub-read-field : tie.Need-sub-read-field
+sub-read-field c = search needs
+
+part-read-field-start : tie.Need-part-read-field-start
+part-read-field-start c = search needs
+
+part-read-field-end : tie.Need-part-read-field-end
+part-read-field-end c = search needs
+
+read-field-requires : tie.Need-read-field-requires
+read-field-requires c κs = search needs
+
+returns : tie.Need-returns
+unfolding fieldAt
+returns c = rw (c .read-field .ensures, part)
+
+pub field-of-spec : {M : Type 1} → statement M
+field-of-spec =
+    tie.close
+    (tie.spec
+    mul-a
+    add-e
+    sub-read-field
+    part-read-field-start
+    part-read-field-end
+    read-field-requires
+    returns)

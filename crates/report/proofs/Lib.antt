@@ -1,2 +1,0 @@
-pub mod OpeningSteps
-pub mod JobSteps
