@@ -1,10 +1,13 @@
-//! The components of a net's graph, as a label for each vertex. Types, definitions and laws are those of the crate `net`.
+//! The components of a net's graph: a label for each vertex, and the lowest vertex of a component. Types, definitions and laws are those of the
+//! crate `net`.
 
 mod classes;
 
 use net::Net;
 ghost use mathlib.Core.Path.{_≡_};
-ghost use Rattle.net.specs.Tables.{Readable, storageFlags, componentLabels};
+ghost use Prim.Native.Nat.{_≤_};
+ghost use Rattle.net.specs.Limits.{mostVertices};
+ghost use Rattle.net.specs.Tables.{Readable, storageFlags, componentLabels, lowestMember};
 
 // The label of each vertex's component: each edge in use that joins storage vertices makes one class of its ends' classes.
 pub fn component_labels(net: Net, storage: &[u8; Net::VERTEX_PLACES]) -> [u8; Net::VERTEX_PLACES]
@@ -20,4 +23,22 @@ pub fn component_labels(net: Net, storage: &[u8; Net::VERTEX_PLACES]) -> [u8; Ne
         }
     }
     labels
+}
+
+// The lowest storage vertex that is labelled as y is; y itself where none is below it.
+pub fn lowest_member<'a>(
+    storage: &'a [u8; Net::VERTEX_PLACES],
+    labels: &'a [u8; Net::VERTEX_PLACES],
+    y: u8,
+) -> u8
+    requires { ⌜ y ≤ mostVertices ⌝ }
+    ensures { λ r. ⌜ r ≡ lowestMember (now (storage .entry)) (now (labels .entry)) y ⌝ }
+{
+    let label = labels[y as usize];
+    for x in 0..y {
+        if flags::both(storage[x as usize], flags::equal(label, labels[x as usize])) == 1 {
+            return x;
+        }
+    }
+    y
 }

@@ -10,8 +10,8 @@ use lib.ListN.{length, length-replicate}
 use borrow.Author.Tests.{eqb-true, eqb-false, ltb-true, ltb-false, lt-ltb, le-ltb}
 use Rattle.ternary.proofs.Tests.{by-test}
 use Rattle.net.proofs.Filling.{zeros, zeros-read}
-use Rattle.lanes.specs.Grid.{grid, setRow}
-use Rattle.lanes.proofs.GridLaws.{length-grid, grid-list, grid-ext, setRow-grid}
+use Rattle.lanes.specs.Grid.{grid, cell, setRow}
+use Rattle.lanes.proofs.GridLaws.{length-grid, grid-cell, grid-list, grid-ext, setRow-grid}
 
 -- a grid of zeros
 pub zeros-grid : (w m : ℕ) (f : ℕ → ℕ → ℕ) → ((v a : ℕ) → v < m → a < w → f v a ≡ 0) → zeros (m * w) ≡ grid w m f
@@ -24,6 +24,11 @@ module _ (w m : ℕ) (f : ℕ → ℕ → ℕ) where
   pub length-rows : (n : ℕ) → length (firstRows n) ≡ m * w
   unfolding firstRows
   length-rows n = length-grid w m _
+
+  -- a row that is stored
+  pub rows-read : (n v a : ℕ) → v < n → v < m → a < w → cell w (firstRows n) v a ≡ f v a
+  unfolding firstRows
+  rows-read n v a h l b = grid-cell w m _ v a l b ∙ ap (λ (t : Bool). cond t (f v a) 0) (lt-ltb v n h)
 
   -- before the first turn
   pub rows-none : zeros (m * w) ≡ firstRows 0

@@ -14,15 +14,16 @@ use Rattle.net.specs.declared.Net.{Net}
 use Rattle.net.specs.Limits.{mostVertices, mostSignals}
 use Rattle.net.specs.Symbols.{symbolBound}
 use Rattle.net.specs.Graph.{isStorage}
-use Rattle.net.specs.Component.{components, isSignal, signals}
+use Rattle.net.specs.Component.{SameComponent, components, isSignal, signals}
 use Rattle.net.specs.SignalTable.{signalCount, signalIndex}
 use Rattle.net.specs.Tables.{signalFlags}
 use Rattle.net.proofs.Filling.{zeros}
+use Rattle.net.proofs.SignalLists.{is-signal-component}
 use Rattle.lanes.specs.Grid.{cell, setRow}
-use Rattle.lanes.proofs.GridLaws.{grid-cell}
+use Rattle.lanes.proofs.GridLaws.{grid-cell, setRow-ext}
 use Rattle.excitations.specs.Fit.{Fit}
 use Rattle.excitations.specs.Conditions.{signalPlaces}
-use Rattle.excitations.proofs.FirstRows.{firstRows, length-rows, rows-none, rows-step, rows-skip, rows-end}
+use Rattle.excitations.proofs.FirstRows.{firstRows, length-rows, rows-read, rows-none, rows-step, rows-skip, rows-end}
 
 module _ (N : Net) where
   -- the flags before a symbol's own tell its place
@@ -62,13 +63,31 @@ module _ (N : Net) where
   pub places-none : zeros (suc mostVertices * symbolBound) ≡ firstPlaces 0
   places-none = rows-none symbolBound (suc mostVertices) place
 
-  -- a storage vertex's row is stored
-  pub places-step : (y : ℕ) {flags r r′ : List ℕ} → isStorage N y ≡ true → y ≤ mostVertices → flags ≡ signalFlags N y → r ≡ firstPlaces y
-      → r′ ≡ setRow symbolBound y (λ s. countBelow s (λ t. eqb (getD flags t 0) 1)) r → r′ ≡ firstPlaces (y + 1)
-  places-step y e h f q p =
-      rw (p, f, q)
-      (rows-step symbolBound (suc mostVertices) place y _ (omega arith)
-      (λ s l. index-flags y s (omega arith) ∙ sym (ap (λ (b : Bool). cond b (signalIndex N y s) 0) e)))
+  -- the rows of the storage vertices below n are there
+  pub places-stored : (n : ℕ) {r : List ℕ} → n ≤ suc mostVertices → r ≡ firstPlaces n
+      → (x s : ℕ) → isStorage N x ≡ true → x < n → s < symbolBound → cell symbolBound r x s ≡ signalIndex N x s
+  places-stored n m q x s e h l =
+      rw q
+      (rows-read symbolBound (suc mostVertices) place n x s h (omega arith) l ∙ ap (λ (b : Bool). cond b (signalIndex N x s) 0) e)
+
+  -- the row of y by its flags, and by the row of another vertex of its component
+  pub row-counted : (y : ℕ) {flags : List ℕ} (r : List ℕ) → flags ≡ signalFlags N y
+      → setRow symbolBound y (λ s. countBelow s (λ t. eqb (getD flags t 0) 1)) r ≡ setRow symbolBound y (signalIndex N y) r
+  row-counted y r f = rw f (setRow-ext symbolBound y _ _ r (omega arith) (λ s l. index-flags y s (omega arith)))
+
+  pub row-shared : {y x : ℕ} (r : List ℕ) → SameComponent N y x → ((s : ℕ) → s < symbolBound → cell symbolBound r x s ≡ signalIndex N x s)
+      → setRow symbolBound y (cell symbolBound r x) r ≡ setRow symbolBound y (signalIndex N y) r
+  unfolding signalIndex
+  row-shared r c h =
+      setRow-ext symbolBound _ _ _ r (omega arith) (λ s l. h s l ∙ count-ext s _ _ (λ t _. sym (is-signal-component N c t)))
+
+  -- it is stored
+  pub places-step : (y : ℕ) {r r′ : List ℕ} → isStorage N y ≡ true → y ≤ mostVertices → r ≡ firstPlaces y
+      → r′ ≡ setRow symbolBound y (signalIndex N y) r → r′ ≡ firstPlaces (y + 1)
+  places-step y e h q p =
+      rw (p, q)
+      (rows-step symbolBound (suc mostVertices) place y (signalIndex N y) (omega arith)
+      (λ s l. sym (ap (λ (b : Bool). cond b (signalIndex N y s) 0) e)))
 
   -- another number's stays zero
   pub places-skip : (y : ℕ) {r : List ℕ} → isStorage N y ≡ false → r ≡ firstPlaces y → r ≡ firstPlaces (y + 1)

@@ -8,30 +8,9 @@ ghost use Rattle.net.specs.Limits.{mostVertices};
 ghost use Rattle.net.specs.Tables.{Prepared};
 ghost use Rattle.sheet.specs.Checked.{Checked};
 ghost use Rattle.sheet.specs.Graph.{overSignals, signalPlace};
-ghost use Rattle.sheet.specs.Search.{foundOf, joinsLower};
-use crate::tests::both;
+ghost use Rattle.sheet.specs.Search.{foundOf};
 use net::Net;
 use sheet::Found;
-
-// Is y labelled as a storage vertex below it is? Both are then of one component.
-fn joins_lower<'a>(
-    storage: &'a [u8; Net::VERTEX_PLACES],
-    labels: &'a [u8; Net::VERTEX_PLACES],
-    y: u8,
-) -> bool
-    requires { ⌜ y ≤ mostVertices ⌝ }
-    ensures { λ r. ⌜ r ≡ joinsLower (now (storage .entry)) (now (labels .entry)) y ⌝ }
-{
-    let label = labels[y as usize];
-    let mut x: u8 = 0;
-    while x < y {
-        if both(storage[x as usize] == 1, label == labels[x as usize]) {
-            return true;
-        }
-        x += 1;
-    }
-    false
-}
 
 // Has the component of vertex y too many signals? It is counted once, at its lowest vertex.
 fn over_signals<'a>(
@@ -46,7 +25,7 @@ fn over_signals<'a>(
     if storage[y as usize] != 1 {
         return false;
     }
-    if joins_lower(storage, labels, y) {
+    if component_labels::lowest_member(storage, labels, y) != y {
         return false;
     }
     Net::MOST_SIGNALS < signals::signal_count(net, storage, labels, y)

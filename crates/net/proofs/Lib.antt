@@ -11,6 +11,7 @@ pub mod Flags
 pub mod Counting
 pub mod KeyFlags
 pub mod SignalFlags
+pub mod Members
 pub mod Reach
 pub mod Connected
 pub mod Fights

@@ -1,18 +1,20 @@
 -- What the code keeps of a net in arrays of bytes: an entry for each vertex number from 0, or for each symbol.
 use Prim.Native.Nat.{ℕ, suc, _≤_, _<_}
-use mathlib.Core.Bool.{Bool, cond}
+use mathlib.Core.Bool.{Bool, cond, _&&_}
 use mathlib.Core.List.{List}
+use mathlib.Core.Option.{none, some}
 use mathlib.Core.Path.{_≡_}
-use lib.ListN.{set, take}
+use lib.Dec.{eqb}
+use lib.ListN.{getD, set, take}
 use Rattle.ternary.specs.Bits.{digit}
-use Rattle.ternary.specs.Lists.{table}
+use Rattle.ternary.specs.Lists.{table, leastBelow}
 use Rattle.net.specs.declared.Net.{Net}
 use Rattle.net.specs.declared.Symbol.{Symbol}
 use Rattle.net.specs.declared.Symbol.the-variants.{Constant, Letter, Vertex, Unknown}
 use Rattle.net.specs.Limits.{mostVertices, mostEdges}
 use Rattle.net.specs.Graph.{vertexAt, edgeAt, isInput, isStorage, isKey}
 use Rattle.net.specs.Symbols.{decode, isVariable, symbolBound}
-use Rattle.net.specs.Classes.{classes, inner}
+use Rattle.net.specs.Classes.{classes, inner, sameLabel}
 use Rattle.net.specs.Component.{components, isSignal}
 
 -- the record fits its arrays, and the edges in use have their ends in a table of vertices
@@ -46,6 +48,14 @@ pub record Prepared (N : Net) (storage labels : List ℕ) : Type 0 where
   pub readable : Readable N
   pub flags : storage ≡ storageFlags N
   pub labelled : take (suc (N .«vertex_count»)) labels ≡ components N
+
+-- by tables of storage flags and of labels: x is a storage vertex with the label of y
+abbrev pub isMember : List ℕ → List ℕ → ℕ → ℕ → Bool
+isMember storage labels y x = eqb (getD storage x 0) 1 && sameLabel labels y x
+
+-- the lowest such x below y; y itself where there is none
+unfoldable pub lowestMember : List ℕ → List ℕ → ℕ → ℕ
+lowestMember storage labels y = elim (leastBelow y (isMember storage labels y)) [ none ↦ y | some x ↦ x ]
 
 -- the label of each input vertex; elsewhere 0, a constant's symbol
 unfoldable pub inputLabels : Net → List ℕ

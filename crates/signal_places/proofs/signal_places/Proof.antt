@@ -10,7 +10,7 @@ use borrow.Author.Tests.{eq-eqb, ne-eqb}
 use Rattle.net.specs.Limits.{mostVertices}
 use Rattle.net.specs.Graph.{isStorage}
 use Rattle.net.proofs.TableLaws.{storage-test}
-use Rattle.excitations.proofs.PlaceLaws.{firstPlaces, length-first-places, places-none, places-step, places-skip, places-all}
+use Rattle.excitations.proofs.PlaceLaws.{firstPlaces, length-first-places, places-none, places-stored, places-step, places-skip, places-all}
 use Rattle.signal_places.proofs.signal_places.Statement.{statement}
 use Rattle.signal_places.proofs.signal_places.Tie as tie
 
@@ -30,16 +30,20 @@ loop-holds c = (search needs, places-none _)
 element-copy-out-if1 : tie.Need-element-copy-out-if1 Inv-loop μ-loop
 element-copy-out-if1 c = search needs
 
-cast-signal-flags : tie.Need-cast-signal-flags Inv-loop μ-loop
-cast-signal-flags c = search needs
+cast-store-row : tie.Need-cast-store-row Inv-loop μ-loop
+cast-store-row c = search needs
 
-signal-flags-requires : tie.Need-signal-flags-requires Inv-loop μ-loop
-signal-flags-requires c κs = (c .before .before .before .before .pre, test (c .before) ∙ eq-eqb _ _ (c .if1 .taken))
-
-place-row-requires : tie.Need-place-row-requires Inv-loop μ-loop
-place-row-requires c κs =
-    let t = c .before .before .before .before .before in
-    (ap length (t .before .loop .inv .1) ∙ length-first-places _ _, omega arith)
+store-row-requires : tie.Need-store-row-requires Inv-loop μ-loop
+store-row-requires c κs =
+    let i = c .before .before in
+    let l = i .before .before in
+    let e = l .loop .inv .1 in (
+      l .before .pre,
+      test i ∙ eq-eqb _ _ (c .before .if1 .taken),
+      omega arith,
+      ap length e ∙ length-first-places _ _,
+      places-stored _ (l .loop .y) (omega arith) e,
+    )
 
 add-y : tie.Need-add-y Inv-loop μ-loop
 add-y c = search needs
@@ -53,7 +57,7 @@ loop-again c =
     let e = t .before .loop .inv .1 in (
       search needs,
       ⊎-elim
-          (λ w. w .5 ∙ places-step _ _ (test (c .before) ∙ eq-eqb _ _ (w .0 .taken)) (omega arith) (w .1 .ensures) e (w .4 .ensures))
+          (λ w. w .3 ∙ places-step _ _ (test (c .before) ∙ eq-eqb _ _ (w .0 .taken)) (omega arith) e (w .2 .ensures))
           (λ w. w .1 ∙ places-skip _ _ (test (c .before) ∙ ne-eqb _ _ (w .0 .left)) e)
           (c .if1 .came),
     )
@@ -71,9 +75,8 @@ signal-places-spec =
     μ-loop
     loop-holds
     element-copy-out-if1
-    cast-signal-flags
-    signal-flags-requires
-    place-row-requires
+    cast-store-row
+    store-row-requires
     add-y
     loop-less
     loop-again

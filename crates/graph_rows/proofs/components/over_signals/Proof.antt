@@ -13,13 +13,13 @@ element-copy-out-if1 c = search needs
 returns : tie.Need-returns
 returns c = let s = c .before .before in not-over (s .args .net) (s .pre .0) (s .args .y) (s .pre .1) (c .if1 .taken)
 
-joins-lower-requires : tie.Need-joins-lower-requires
-joins-lower-requires c κs = c .before .before .pre .1
+lowest-member-requires : tie.Need-lowest-member-requires
+lowest-member-requires c κs = c .before .before .pre .1
 
 returns-2 : tie.Need-returns-2
 returns-2 c =
     let s = c .before .before .before .before in
-    joined-not-over (s .args .net) (s .pre .0) (s .args .y) (s .pre .1) (s .pre .2) (c .before .before .if1 .left) (sym (c .before .joins-lower .ensures) ∙ c .if2 .taken)
+    joined-not-over (s .args .net) (s .pre .0) (s .args .y) (s .pre .1) (s .pre .2) (c .before .before .if1 .left) (λ e. c .if2 .taken (c .before .lowest-member .ensures ∙ e))
 
 signal-count-requires : tie.Need-signal-count-requires
 signal-count-requires c κs =
@@ -37,7 +37,7 @@ over-signals-spec =
     (tie.spec
     element-copy-out-if1
     returns
-    joins-lower-requires
+    lowest-member-requires
     returns-2
     signal-count-requires
     returns-3)
