@@ -3,7 +3,7 @@ use Prim.Native.Nat.{ℕ, _-_, _*_, _≤_, _<_}
 use native.Mathlib.Omega.{arith}
 use mathlib.Core.Path.{_≡_, ap, subst, _∙_}
 use mathlib.Core.Option.{none}
-use mathlib.Core.List.{List}
+use mathlib.Core.List.{List, map}
 use lib.ListN.{length, take, drop, length-take, length-drop, length-replicate}
 use lib.Seq.{take-take}
 use Rattle.ternary.specs.Bits.{bit}
@@ -11,6 +11,7 @@ use Rattle.ternary.specs.Signal.{at}
 use Rattle.ternary.specs.Run.{Run}
 use Rattle.net.specs.declared.Net.{Net}
 use Rattle.net.specs.Graph.{keyCount}
+use Rattle.net.specs.Ternary.{settled}
 use Rattle.net.specs.WellFormed.{placeC1}
 use Rattle.net.proofs.WellFormed.{place-c1-none}
 use Rattle.sheet.specs.Limits.{lineWidth}
@@ -19,14 +20,15 @@ use Rattle.sheet.specs.Job.{jobOf}
 use Rattle.settlements.specs.Batch.{jobCount, jobWidth}
 use Rattle.settlements.proofs.Parts.{drop-take}
 use Rattle.output.specs.Limits.{mostJobs}
-use Rattle.output.specs.Text.{vectorText}
+use Rattle.output.specs.Text.{character, vectorText}
 use Rattle.output.specs.Output.{batchFor, outputOf}
 use Rattle.output.specs.Printed.{printedLine, printedR, printedT, AgainstPrinted}
 use Rattle.output.proofs.Characters.{character-against, vector-at}
-use Rattle.output.proofs.OutputLines.{linesRead, own, own-size, numbers-in-output, r-in-output, t-in-output}
+use Rattle.output.proofs.OutputLines.{linesRead, own, own-size, numbers-in-output, r-in-output, t-in-output, settled-in-output}
 use Rattle.demands.specs.Demand1.{lineOf}
 use Rattle.demands.specs.Demand3.{Settles, runOf, NoneAgainst, JobPromise}
 use Rattle.demands.specs.Text.{NoneAgainstPrinted, TextPromise}
+use Rattle.demands.proofs.Vectors.{r-size, t-size}
 use Rattle.demands.proofs.Demand3.{demand3-job}
 
 -- characters of a vector that no key node is against
@@ -52,9 +54,12 @@ module _ {sheet : List ℕ} {N : Net} {A B q : ℕ} (s : Settles sheet N A B q) 
   unfolding batchFor
   demand3-text jobs n few h asked = record {
     numbers = numbers-in-output sheet N (s .reads) c1 jobs n read ∙ rw (job .answers);
+    r-shown = shown .0;
+    t-shown = shown .1;
     first = λ steps. none-printed N (runOf N A B q steps) bytes r-text (omega (arith, size)) (job .promise .first steps);
     second = λ steps enough. none-printed N (runOf N A B q steps) (drop (keyCount N) bytes) t-text (rw length-drop (omega (arith, size)))
         (job .promise .second steps (rw (job .answers) enough));
+    most = rw (job .answers) at (job .promise .most);
   }
     where
       c1 : placeC1 N ≡ none
@@ -65,6 +70,12 @@ module _ {sheet : List ℕ} {N : Net} {A B q : ℕ} (s : Settles sheet N A B q) 
 
       job : JobPromise N A B q n (batchFor N (linesRead jobs))
       job = demand3-job s (linesRead jobs) _ _ n read (ap jobOf (read-line jobs n few) ∙ asked) (rw length-replicate (omega arith)) (rw length-replicate (omega arith))
+
+      shown : (printedR (keyCount N) (printedLine (keyCount N) n (outputOf sheet jobs)) ≡ map character (settled N A B q .r))
+          × (printedT (keyCount N) (printedLine (keyCount N) n (outputOf sheet jobs)) ≡ map character (settled N A B q .t))
+      shown =
+          settled-in-output sheet N (s .reads) c1 jobs n read (settled N A B q .r) (settled N A B q .t) (ap (λ (three : List ℕ). at three 0) (job .answers)) (job .results)
+          (r-size N A B q) (t-size N A B q)
 
       bytes : List ℕ
       bytes = own sheet N (s .reads) c1 jobs n read

@@ -21,10 +21,10 @@ module _ (N : Net) (A B q : ℕ) where
   abbrev t : List ℕ
   t = settled N A B q .t
 
-  r-size : length r ≡ keyCount N
+  pub r-size : length r ≡ keyCount N
   r-size = first-vector-length (N .«letter_count») (keyCount N) (network N) A B q
 
-  t-size : length t ≡ keyCount N
+  pub t-size : length t ≡ keyCount N
   t-size = second-vector-length (N .«letter_count») (keyCount N) (network N) A B q
 
   -- the first h bytes of two buffers are the passes' vectors
