@@ -1,8 +1,8 @@
--- Laws of lanes: what the rows that are chosen, marked and raised hold lane by lane, and what level rows tell. Assumes nothing.
+-- Laws of lanes: columns, one lane, what a raised row holds lane by lane, and what level rows tell. Assumes nothing.
 use Prim.Native.Nat.{ℕ, suc, _*_, _^_, _<_, _≤_}
-use mathlib.Core.Path.{_≡_, refl, sym, ap, _∙_}
+use mathlib.Core.Path.{_≡_, refl, ap, _∙_}
 use mathlib.Core.Bool.{Bool, true, false, not, _&&_}
-use mathlib.Core.Logic.{_⊎_, inl, inr, _↔_, _≢_}
+use mathlib.Core.Logic.{_⊎_, inl, inr, _≢_}
 use mathlib.Core.List.{List}
 use native.Mathlib.Omega.{arith}
 use lib.Dec.{eqb}
@@ -13,7 +13,7 @@ use Rattle.ternary.specs.Lists.{anyBelow}
 use Rattle.ternary.proofs.ListLaws.{any-found, any-none}
 use Rattle.ternary.proofs.Tests.{and-left, and-right, and-false, by-test}
 use Rattle.net.specs.Limits.{mostSignals}
-use Rattle.lanes.specs.Lanes.{assignments, lane, columns, chosen, raised, chooseRow, markRow, raiseRow, level}
+use Rattle.lanes.specs.Lanes.{assignments, lane, columns, chosen, raised, raiseRow, level}
 use Rattle.lanes.proofs.GridLaws.{length-grid, grid-cell, length-setRow, setRow-same, setRow-other}
 
 pub assignments-power : assignments ≡ 2 ^ mostSignals
@@ -50,56 +50,6 @@ raised-off on from mark n = simp (ne-eqb on 1 n)
 pub raised-unset : (on from mark : ℕ) → from ≢ 1 → raised on from mark ≡ mark
 unfolding raised
 raised-unset on from mark n = by-test (eqb on 1) (λ t. simp (t, ne-eqb from 1 n)) (λ t. simp t)
-
--- a mark is set exactly if it was set, or set from another over an edge that is on
-pub raised-iff : (on from mark : ℕ) → (raised on from mark ≡ 1) ↔ ((mark ≡ 1) ⊎ ((on ≡ 1) × (from ≡ 1)))
-raised-iff on from mark = (there, back)
-  where
-    there : raised on from mark ≡ 1 → (mark ≡ 1) ⊎ ((on ≡ 1) × (from ≡ 1))
-    there e = by-test (eqb on 1)
-        (λ t. by-test (eqb from 1)
-        (λ s. inr (eqb-true on 1 t, eqb-true from 1 s))
-        (λ s. inl (sym (raised-unset on from mark (eqb-false from 1 s)) ∙ e)))
-        (λ t. inl (sym (raised-off on from mark (eqb-false on 1 t)) ∙ e))
-
-    back : (mark ≡ 1) ⊎ ((on ≡ 1) × (from ≡ 1)) → raised on from mark ≡ 1
-    back (inl e) = by-test (eqb on 1)
-        (λ t. by-test (eqb from 1)
-        (λ s. raised-up on from mark (eqb-true on 1 t) (eqb-true from 1 s))
-        (λ s. raised-unset on from mark (eqb-false from 1 s) ∙ e))
-        (λ t. raised-off on from mark (eqb-false on 1 t) ∙ e)
-    back (inr e) = raised-up on from mark (e .0) (e .1)
-
--- ---- a row chosen
-
-pub length-chooseRow : (v p low high : ℕ) (r : List ℕ) → length (chooseRow v p low high r) ≡ length r
-unfolding chooseRow
-length-chooseRow v p low high r = length-setRow assignments v _ r
-
-pub chooseRow-same : (v p low high : ℕ) (r : List ℕ) (w : ℕ) → p ≤ mostSignals → w < assignments → suc v * assignments ≤ length r → lane (chooseRow v p low high r) v w ≡ chosen low high (bit w p)
-unfolding chooseRow
-chooseRow-same v p low high r w h l k =
-    setRow-same assignments v (λ w. chosen low high (lane columns p w)) r w l (omega arith) ∙ ap (chosen low high) (column-read p w h l)
-
-pub chooseRow-other : (v p low high : ℕ) (r : List ℕ) (u w : ℕ) → w < assignments → u ≢ v → lane (chooseRow v p low high r) u w ≡ lane r u w
-unfolding chooseRow
-chooseRow-other v p low high r u w l n = setRow-other assignments v (λ w. chosen low high (lane columns p w)) r u w l n
-
--- ---- a row marked
-
-pub length-markRow : (on : List ℕ) (i v p low high : ℕ) (r : List ℕ) → length (markRow on i v p low high r) ≡ length r
-unfolding markRow
-length-markRow on i v p low high r = length-setRow assignments v _ r
-
-pub markRow-same : (on : List ℕ) (i v p low high : ℕ) (r : List ℕ) (w : ℕ) → p ≤ mostSignals → w < assignments → suc v * assignments ≤ length r → lane (markRow on i v p low high r) v w ≡ raised (lane on i w) (chosen low high (bit w p)) (lane r v w)
-unfolding markRow
-markRow-same on i v p low high r w h l k =
-    setRow-same assignments v (λ w. raised (lane on i w) (chosen low high (lane columns p w)) (lane r v w)) r w l (omega arith)
-    ∙ ap (λ (b : ℕ). raised (lane on i w) (chosen low high b) (lane r v w)) (column-read p w h l)
-
-pub markRow-other : (on : List ℕ) (i v p low high : ℕ) (r : List ℕ) (u w : ℕ) → w < assignments → u ≢ v → lane (markRow on i v p low high r) u w ≡ lane r u w
-unfolding markRow
-markRow-other on i v p low high r u w l n = setRow-other assignments v _ r u w l n
 
 -- ---- a row raised
 

@@ -1,7 +1,7 @@
 -- The passes by look-ups are the passes of a net, in vectors with room for the most letters and key nodes.
 use Prim.Native.Nat.{ℕ}
 use mathlib.Core.Path.{_≡_, ap, ap₂, _∙_}
-use mathlib.Core.Bool.{true, false}
+use mathlib.Core.Bool.{true}
 use mathlib.Core.List.{List}
 use lib.ListN.{length}
 use Rattle.ternary.specs.Bits.{bit}
@@ -23,7 +23,7 @@ use Rattle.lookups.specs.declared.Passes.{Passes}
 use Rattle.lookups.specs.TernaryTables.{ternaryTables}
 use Rattle.lookups.specs.Additions.{additions}
 use Rattle.lookups.specs.LookUps.{lookedUp}
-use Rattle.lookups.specs.Passing.{padded, bits, unstable, passBy, passesBy, passesOf}
+use Rattle.lookups.specs.Passing.{padded, bits, passBy, passesBy, passesOf}
 use Rattle.lookups.proofs.Padding.{bits-padded, mix-padded, padded-same}
 use Rattle.lookups.proofs.LookUpLaws.{look-up}
 
@@ -38,14 +38,6 @@ module _ (N : Net) (A B q : ℕ) where
     «first_steps» = s .firstSteps;
     «second_steps» = s .secondSteps;
   }
-
-  pub passes-of-stable : stable N A q ≡ true → passesOf N A B q ≡ passesMade
-  unfolding passesOf
-  passes-of-stable t = rw t
-
-  pub passes-of-unstable : stable N A q ≡ false → passesOf N A B q ≡ unstable
-  unfolding passesOf
-  passes-of-unstable t = rw t
 
 module _ (N : Net) (fit : Fit N) (c1 : C1 N) where
   abbrev L : ℕ

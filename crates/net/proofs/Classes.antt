@@ -89,15 +89,6 @@ module _ (N : Net) (on : ℕ → Bool) where
   unfolding inner
   inner-end2 i h = search ands
 
-  -- one edge of the loop
-  pub labels-merged : (n : ℕ) → Inner n → labels N on (suc n) ≡ merge ((edgeAt N n) .end1) ((edgeAt N n) .end2) (labels N on n)
-  unfolding labels classes
-  labels-merged n h = rw h
-
-  pub labels-kept : (n : ℕ) → (on n && inner N (edgeAt N n)) ≡ false → labels N on (suc n) ≡ labels N on n
-  unfolding labels classes
-  labels-kept n h = rw h
-
   length-labels : (n : ℕ) → length (labels N on n) ≡ suc (N .«vertex_count»)
   unfolding labels classes merge
   length-labels zero = length-table (suc (N .«vertex_count»)) (λ v. v)

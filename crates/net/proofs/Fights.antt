@@ -10,7 +10,7 @@ use Rattle.net.specs.Graph.{edgeAt, isStorage}
 use Rattle.net.specs.declared.Kind.the-variants.{Any}
 use Rattle.net.specs.State.{usable, inputOf}
 use Rattle.net.specs.Walks.{Joins, Link, Walk, edge, via, Connection, Connects, Fight}
-use Rattle.net.specs.Excitation.{connected, edgeFights, vertexFights, fights}
+use Rattle.net.specs.Excitation.{edgeFights, vertexFights, fights}
 use Rattle.ternary.proofs.Tests.{ands, and-left, and-right, both, or-true, or-left, or-right}
 use Rattle.ternary.proofs.ListLaws.{any-found, any-of}
 use Rattle.net.proofs.Classes.{storage-range}

@@ -7,11 +7,11 @@ use Rattle.net.specs.declared.Net.{Net}
 use Rattle.net.specs.declared.Kind.the-variants.{Any}
 use Rattle.net.specs.Graph.{vertexAt, edgeAt, isInput, isStorage, isOutput, hasRole}
 use Rattle.net.specs.State.{value, condition, usable, inputOf}
-use Rattle.net.specs.Excitation.{connected, excitation, edgeFights, vertexFights}
+use Rattle.net.specs.Excitation.{excitation, edgeFights, vertexFights}
 use Rattle.net.specs.Component.{Agree}
 use Rattle.net.specs.SignalTable.{gather, spreadInput, spreadKeys}
 use Rattle.net.specs.Known.{Known}
-use Rattle.ternary.proofs.Tests.{and-left, and-right, both, by-test, or-true, or-right}
+use Rattle.ternary.proofs.Tests.{and-left, and-right, by-test, or-true, or-right}
 use Rattle.net.proofs.Values.{input-of}
 use Rattle.net.proofs.Local.{connected-local, excitation-local}
 use Rattle.net.proofs.SignalTable.{gather-agrees}

@@ -13,7 +13,7 @@ use Rattle.net.specs.declared.Net.{Net}
 use Rattle.net.specs.Limits.{mostVertices}
 use Rattle.net.specs.Graph.{isStorage}
 use Rattle.net.specs.Classes.{sameLabel}
-use Rattle.net.specs.Component.{SameComponent, components, sameComponent}
+use Rattle.net.specs.Component.{SameComponent, sameComponent}
 use Rattle.net.specs.Tables.{Prepared, isMember, lowestMember}
 use Rattle.net.proofs.Components.{same-component-iff}
 use Rattle.net.proofs.SignalFlags.{member-test}

@@ -67,18 +67,11 @@ bit-number (suc h) f b (suc k) l =
     let half : (f 0 + 2 * number h (λ k. f (suc k))) / 2 ≡ number h (λ k. f (suc k)) = omega arith in
     rw half (bit-number h (λ k. f (suc k)) (λ k l. b (suc k) (omega arith)) k (omega arith))
 
-pub number-bits : (h n : ℕ) → n < 2 ^ h → number h (bit n) ≡ n
-number-bits h n l = bit-ext h (number h (bit n)) n (number-lt h (bit n) (λ k _. bit-lt n k)) l (bit-number h (bit n) (λ k _. bit-lt n k))
-
 -- ---- sets
 
 pub digit-lt : (b : Bool) → digit b < 2
 digit-lt true = omega arith
 digit-lt false = omega arith
-
-pub setOf-lt : (h : ℕ) (P : ℕ → Bool) → setOf h P < 2 ^ h
-unfolding setOf
-setOf-lt h P = number-lt h (λ k. digit (P k)) (λ k _. digit-lt (P k))
 
 -- a digit is 1 exactly if its test passes
 pub eqb-digit : (b : Bool) → eqb (digit b) 1 ≡ b

@@ -1,6 +1,6 @@
 -- Only a storage vertex has a component, and a component that a lower vertex shares has been counted there.
 use borrow.Author.Needs.{needs}
-use mathlib.Core.Path.{sym, _∙_, ap}
+use mathlib.Core.Path.{_∙_, ap}
 use lib.Dec.{ltb}
 use Rattle.net.specs.Limits.{mostSignals}
 use Rattle.sheet.proofs.OverSignalLaws.{flag-set, not-over, over-count, joined-not-over}
