@@ -27,8 +27,8 @@ LINE = 21
 
 
 def case(kind, data=b"", numbers=()):
-    """A case without a note."""
-    return laid_out(kind, numbers, data, b"")
+    """A case, and the end of its line as its note."""
+    return laid_out(kind, numbers, data) + laid_out(b"#", data=b"\n")
 
 
 def counted(program, **place):

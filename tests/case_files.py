@@ -1,10 +1,10 @@
 """How the generators collect and store the cases of their test programs.
 
-A case in the input: its kind (one byte), the length of its note in four columns, then five numbers and the length of its data in three fields of
-four columns each, four decimal digits to a field; then the note and the data. Numbers that a case does not need are 0.
+A case in the input: its kind (one byte), then five numbers and the size of its data, each in three fields of four columns with four decimal digits to a
+field, then the data. Numbers that a case does not need are 0. After each case comes its note as a case of the kind #, whose data are printed as they stand.
 """
 import pathlib
-from sheets import field, large
+from sheets import large
 
 NUMBERS = 5
 
@@ -18,17 +18,17 @@ def case(kind, answer, note, numbers=(), data=b""):
     CASES.append((kind, numbers, data, answer, note))
 
 
-def laid_out(kind, numbers, data, text):
-    return kind + field(len(text)) + b"".join(large(n) for n in (*numbers, *[0] * NUMBERS)[:NUMBERS]) + large(len(data)) + text + data
+def laid_out(kind, numbers=(), data=b""):
+    return kind + b"".join(large(n) for n in (*numbers, *[0] * NUMBERS)[:NUMBERS]) + large(len(data)) + data
 
 
 def store(program):
     """Writes the input and the expected output of a program: each case by its kind, its numbers and its data, and its answer before its note."""
     given, wanted = b"", b""
     for kind, numbers, data, answer, note in CASES:
-        text = note.encode()
-        given += laid_out(kind, numbers, data, text)
-        wanted += answer + b" " + text + b"\n"
+        text = b" " + note.encode() + b"\n"
+        given += laid_out(kind, numbers, data) + laid_out(b"#", data=text)
+        wanted += answer + text
     assert len(given) <= MOST_INPUT, "a test program reads no more than its buffer holds"
     here = pathlib.Path(__file__).parent.parent / "crates" / program
     here.mkdir(exist_ok=True)

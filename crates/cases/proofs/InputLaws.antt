@@ -1,4 +1,4 @@
--- A part is there or not, and a field at a place reads as a number or not; beyond the input all numbers are 0, and no case stands there. The next case
+-- A part is there or not, and a field at a place reads as a number or not; beyond the input all numbers are 0. The next case
 -- stands later, and no later than the end.
 use Prim.Native.Nat.{ℕ, _+_, _-_, _*_, _≤_, _<_}
 use native.Mathlib.Omega.{arith}
@@ -6,7 +6,7 @@ use mathlib.Core.Path.{_≡_}
 use mathlib.Core.List.{List, []}
 use mathlib.Core.Option.{Option}
 use lib.Dec.{ltb}
-use lib.ListN.{length, take, drop, List·getD-eq-default}
+use lib.ListN.{length, take, drop}
 use borrow.Author.Tests.{le-leb, lt-leb, le-ltb, ltb-true}
 use Rattle.ternary.proofs.Tests.{cond-by}
 use Rattle.sheet.specs.declared.Field.the-variants.{Number, Refused}
@@ -14,7 +14,7 @@ use Rattle.sheet.specs.Limits.{fieldWidth}
 use Rattle.sheet.specs.Field.{readField, fieldAnswer}
 use Rattle.sheet.proofs.FieldSteps.{wrong-width}
 use Rattle.sheet.proofs.LineSteps.{number-of, refused-of, part}
-use Rattle.cases.specs.Input.{partOf, numberAt, threeFields, notePlace, noteSize, dataSize, nextOf, inForce}
+use Rattle.cases.specs.Input.{partOf, numberAt, threeFields, dataPlace, dataSize, nextOf}
 
 module _ (b : List ℕ) (at n : ℕ) where
   pub part-missing : length b < at + n → [] ≡ partOf b at n
@@ -48,13 +48,9 @@ module _ (b : List ℕ) (at : ℕ) where
   three-beyond h =
       rw (number-beyond b at (omega arith), number-beyond b (at + fieldWidth) (omega arith), number-beyond b (at + 2 * fieldWidth) (omega arith))
 
-  pub in-force-beyond : (before : ℕ) → length b ≤ at → before ≡ inForce b at before
-  unfolding inForce
-  in-force-beyond before h = rw (List·getD-eq-default b 0 h)
-
   -- where the next case would stand, were there no end
   abbrev after : ℕ
-  after = at + notePlace + noteSize b at + dataSize b at
+  after = at + dataPlace + dataSize b at
 
   pub next-beyond : length b < at → length b ≡ nextOf b at
   unfolding nextOf

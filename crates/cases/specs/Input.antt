@@ -3,8 +3,8 @@ use Prim.Native.Nat.{ℕ, _+_, _*_}
 use mathlib.Core.Bool.{cond}
 use mathlib.Core.List.{List, []}
 use mathlib.Core.Option.{Option, none, some}
-use lib.Dec.{eqb, ltb, leb}
-use lib.ListN.{length, take, drop, getD}
+use lib.Dec.{ltb, leb}
+use lib.ListN.{length, take, drop}
 use Rattle.sheet.specs.Limits.{fieldWidth}
 use Rattle.sheet.specs.Field.{readField}
 
@@ -37,40 +37,22 @@ largest = 4294967295
 unfoldable pub largeAt : List ℕ → ℕ → ℕ
 largeAt b at = cond (ltb (threeFields b at) largest) (threeFields b at) largest
 
--- where the parts of a case stand, counted from its kind, which is its first byte: the size of its note, five numbers, the size of its data, its note
-abbrev pub noteSizePlace : ℕ
-noteSizePlace = 1
-
+-- where the parts of a case stand, counted from its kind, which is its first byte: five numbers, the size of its data, its data
 abbrev pub dataSizePlace : ℕ
-dataSizePlace = noteSizePlace + fieldWidth + 5 * (3 * fieldWidth)
+dataSizePlace = 1 + 5 * (3 * fieldWidth)
 
-abbrev pub notePlace : ℕ
-notePlace = dataSizePlace + 3 * fieldWidth
+abbrev pub dataPlace : ℕ
+dataPlace = dataSizePlace + 3 * fieldWidth
 
--- the sizes of the note and of the data of the case at a place
-abbrev pub noteSize : List ℕ → ℕ → ℕ
-noteSize b at = numberAt b (at + noteSizePlace)
-
+-- the size of the data of the case at a place
 abbrev pub dataSize : List ℕ → ℕ → ℕ
 dataSize b at = largeAt b (at + dataSizePlace)
 
--- its note, and its data, which come after the note
-unfoldable pub noteOf : List ℕ → ℕ → List ℕ
-noteOf b at = partOf b (at + notePlace) (noteSize b at)
-
 unfoldable pub dataOf : List ℕ → ℕ → List ℕ
-dataOf b at = partOf b (at + notePlace + noteSize b at) (dataSize b at)
+dataOf b at = partOf b (at + dataPlace) (dataSize b at)
 
 -- where the next case stands: after the data, and at the end at the latest
 unfoldable pub nextOf : List ℕ → ℕ → ℕ
 nextOf b at =
-    let next = at + notePlace + noteSize b at + dataSize b at in
+    let next = at + dataPlace + dataSize b at in
     cond (ltb next (length b)) next (length b)
-
--- the kind of a case that brings a sheet: the letter N
-abbrev pub sheetKind : ℕ
-sheetKind = 78
-
--- the case whose sheet is in force at the case at a place: that case itself where its kind says so; else the one before
-unfoldable pub inForce : List ℕ → ℕ → ℕ → ℕ
-inForce b at before = cond (eqb (getD b at 0) sheetKind) at before

@@ -1,25 +1,28 @@
-//! How a case of the test programs is laid out in their input. A number has four columns, or three times four where it may be large. A case may bring
-//! the sheet for the cases after it.
+//! How a case of the test programs is laid out in their input. Each number has three fields of four columns. A case may bring the sheet for the cases after
+//! it, or a note that is printed as it stands.
 
 ghost use mathlib.Core.Path.{_≡_};
-ghost use Rattle.cases.specs.Input.{partOf, numberAt, threeFields, largeAt, noteOf, dataOf, nextOf, inForce};
+ghost use Rattle.cases.specs.Input.{partOf, numberAt, threeFields, largeAt, dataOf, nextOf};
 use sheet::Field;
 use sheet::Sheet;
 
 // A field holds a number below this.
 const FIELD_BASE: u64 = 10000;
 
-// Where the parts of a case stand, counted from its kind, which is one byte: the size of its note, five numbers, the size of its data, its note. The
-// data come last.
+pub struct Input;
+
+impl Input {
+    // The most bytes that a test program reads.
+    pub const MOST_BYTES: usize = 256000;
+}
+
+// Where the parts of a case stand, counted from its kind, which is one byte: five numbers, the size of its data, its data.
 pub struct Case;
 
 impl Case {
-    const NOTE_SIZE: usize = 1;
-
-    // A number in three fields.
     const NUMBER_WIDTH: usize = 3 * Sheet::FIELD_WIDTH;
 
-    pub const FIRST: usize = Case::NOTE_SIZE + Sheet::FIELD_WIDTH;
+    pub const FIRST: usize = 1;
 
     pub const SECOND: usize = Case::FIRST + Case::NUMBER_WIDTH;
 
@@ -31,7 +34,7 @@ impl Case {
 
     const DATA_SIZE: usize = Case::FIFTH + Case::NUMBER_WIDTH;
 
-    const NOTE: usize = Case::DATA_SIZE + Case::NUMBER_WIDTH;
+    const DATA: usize = Case::DATA_SIZE + Case::NUMBER_WIDTH;
 }
 
 // Some bytes of the input; none where they are not all there.
@@ -83,17 +86,6 @@ pub fn large_at(input: &[u8], at: usize) -> u32
     u32::MAX
 }
 
-// The note of the case at a place.
-pub fn note_of(input: &[u8], at: usize) -> &[u8]
-    ensures { λ r. ⌜ now r ≡ noteOf (now (input .entry)) at ⌝ }
-{
-    if input.len() < at {
-        return &input[0..0];
-    }
-    let size = number_at(input, at + Case::NOTE_SIZE) as usize;
-    part(input, at + Case::NOTE, size)
-}
-
 // The data of the case at a place.
 pub fn data_of(input: &[u8], at: usize) -> &[u8]
     ensures { λ r. ⌜ now r ≡ dataOf (now (input .entry)) at ⌝ }
@@ -101,9 +93,8 @@ pub fn data_of(input: &[u8], at: usize) -> &[u8]
     if input.len() < at {
         return &input[0..0];
     }
-    let note_size = number_at(input, at + Case::NOTE_SIZE) as usize;
     let size = large_at(input, at + Case::DATA_SIZE) as usize;
-    part(input, at + Case::NOTE + note_size, size)
+    part(input, at + Case::DATA, size)
 }
 
 // Where the case after the one at a place stands.
@@ -114,24 +105,10 @@ pub fn next_case(input: &[u8], at: usize) -> usize
     if end < at {
         return end;
     }
-    let note_size = number_at(input, at + Case::NOTE_SIZE) as usize;
-    let data_size = large_at(input, at + Case::DATA_SIZE) as usize;
-    let next = at + Case::NOTE + note_size + data_size;
+    let size = large_at(input, at + Case::DATA_SIZE) as usize;
+    let next = at + Case::DATA + size;
     if next < end {
         return next;
     }
     end
-}
-
-// The case whose sheet is in force at the case at a place: that case itself if its kind is N, else the one before.
-pub fn case_in_force(input: &[u8], at: usize, before: usize) -> usize
-    ensures { λ r. ⌜ r ≡ inForce (now (input .entry)) at before ⌝ }
-{
-    if input.len() <= at {
-        return before;
-    }
-    if input[at] == b'N' {
-        return at;
-    }
-    before
 }

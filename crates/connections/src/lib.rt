@@ -1,4 +1,7 @@
 //! Connections to input vertices, in lanes. Definitions and laws are those of the crate `excitations`.
+mod conditions;
+mod lane_marks;
+
 use net::Kind;
 use net::Net;
 use net::Symbol;

@@ -18,9 +18,9 @@ use Rattle.sheet.specs.Reading.{readSheet}
 use Rattle.sheet.specs.Text.{bytes}
 use Rattle.settlements.specs.Settle.{settling}
 use Rattle.settlements.specs.Batch.{Batch, batchOf}
-use Rattle.demands.specs.Nets.{worked, threeNands}
+use Rattle.bench_examples.specs.Nets.{worked, threeNands}
 use Rattle.demands.specs.Demand3.{runOf}
-use Rattle.demands.proofs.Opened.{opened}
+use Rattle.bench_examples.proofs.Opened.{opened}
 use Rattle.demands.proofs.Kept.{Kept, JobKept, settle-kept, job-kept, settles-at}
 
 -- what a buffer holds before the call: n bytes that no pass writes

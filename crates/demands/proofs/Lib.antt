@@ -1,5 +1,3 @@
-pub mod Opened
-pub mod Table
 pub mod Fit
 pub mod Unplaced
 pub mod JobRows

@@ -1,5 +1,3 @@
-pub mod Nets
-pub mod Table
 pub mod Demand1
 pub mod Demand2
 pub mod Demand3

@@ -2,15 +2,32 @@
 
 ghost use mathlib.Core.Path.{_≡_};
 ghost use Prim.Native.Nat.{_≤_};
+ghost use mathlib.Core.Bool.{true};
 ghost use mathlib.Core.Option.{none};
 ghost use Rattle.ternary.specs.Lists.{leastBelow};
 ghost use Rattle.net.specs.Limits.{mostVertices};
+ghost use Rattle.net.specs.Graph.{isStorage};
+ghost use Rattle.net.specs.SignalTable.{signalCount};
 ghost use Rattle.net.specs.Tables.{Prepared};
 ghost use Rattle.sheet.specs.Checked.{Checked};
 ghost use Rattle.sheet.specs.Graph.{overSignals, signalPlace};
 ghost use Rattle.sheet.specs.Search.{foundOf};
 use net::Net;
 use sheet::Found;
+
+// The number of signals of y's component.
+fn signal_count<'a>(
+    net: Net,
+    storage: &'a [u8; Net::VERTEX_PLACES],
+    labels: &'a [u8; Net::VERTEX_PLACES],
+    y: u8,
+) -> usize
+    requires { ⌜ Prepared net (now storage) (now labels) × (isStorage net y ≡ true) ⌝ }
+    ensures { λ r. ⌜ r ≡ signalCount net y ⌝ }
+{
+    let flags = signals::signal_flags(net, storage, labels, y);
+    flags::count_flags(&flags)
+}
 
 // Has the component of vertex y too many signals? It is counted once, at its lowest vertex.
 fn over_signals<'a>(
@@ -28,7 +45,7 @@ fn over_signals<'a>(
     if component_labels::lowest_member(storage, labels, y) != y {
         return false;
     }
-    Net::MOST_SIGNALS < signals::signal_count(net, storage, labels, y)
+    Net::MOST_SIGNALS < signal_count(net, storage, labels, y)
 }
 
 // The lowest vertex of a component with too many signals.

@@ -6,7 +6,7 @@ ghost use mathlib.Core.Path.{_≡_};
 ghost use lib.ListN.{length};
 ghost use Rattle.io.specs.Counts.{Counts};
 use cases::Case;
-use cases::case_in_force;
+use cases::Input;
 use cases::data_of;
 use cases::large_at;
 use cases::next_case;
@@ -14,8 +14,6 @@ use libc::STDIN_FILENO;
 use libc::STDOUT_FILENO;
 use output::Report;
 use output::Written;
-use printing::input_buffer;
-use printing::print_note;
 use sheet::Sheet;
 
 // The lines of the jobs that one call takes.
@@ -35,7 +33,13 @@ impl Lent {
     const MOST_JOBS: usize = (Report::MOST_JOBS + 1) * Sheet::LINE_WIDTH + 1;
 }
 
-// The buffers before a call. Each clause tells the length, which lending a part needs.
+// The buffer for the input, and those before a call. Each clause tells the length, which lending a part needs.
+fn input_buffer() -> [u8; Input::MOST_BYTES]
+    ensures { λ r. do ⌜ (← ⟦Input::MOST_BYTES⟧ .entry) ≡ length r ⌝ }
+{
+    [0; Input::MOST_BYTES]
+}
+
 fn text_buffer() -> [u8; Lent::MOST_TEXT]
     ensures { λ r. do ⌜ (← ⟦Lent::MOST_TEXT⟧ .entry) ≡ length r ⌝ }
 {
@@ -243,13 +247,25 @@ fn print_answer<'a>(cases: &'a [u8], at: usize, sheet: &'a [u8])
     }
 }
 
+// Prints a note as it stands, which ends the line of the case before it; of any other case the answer, for the sheet of the case that brought one last.
+fn print_case(cases: &[u8], at: usize, from: usize)
+    requires { ⌜ at < length (now cases) ⌝ }
+{
+    if cases[at] == b'#' {
+        io::write_all(STDOUT_FILENO, data_of(cases, at));
+    } else {
+        print_answer(cases, at, data_of(cases, from));
+    }
+}
+
 fn run_cases(cases: &[u8]) {
     let mut at: usize = 0;
     let mut from: usize = 0;
     while at < cases.len() {
-        from = case_in_force(cases, at, from);
-        print_answer(cases, at, data_of(cases, from));
-        print_note(cases, at);
+        if cases[at] == b'N' {
+            from = at;
+        }
+        print_case(cases, at, from);
         at = next_case(cases, at);
     }
 }

@@ -2,23 +2,36 @@
 //! tests/sheet_cases.py tells the layout of a case and where each expected answer comes from.
 
 ghost use Prim.Native.Nat.{_<_};
+ghost use mathlib.Core.Path.{_≡_};
 ghost use lib.ListN.{length};
 use cases::Case;
+use cases::Input;
 use cases::data_of;
 use cases::large_at;
 use cases::next_case;
 use libc::STDIN_FILENO;
-use printing::input_buffer;
-use printing::print_column;
-use printing::print_note;
-use printing::print_place;
+use libc::STDOUT_FILENO;
 use sheet::JobLine;
+
+// The buffer for the input. The clause tells its length, which lending a part needs.
+fn input_buffer() -> [u8; Input::MOST_BYTES]
+    ensures { λ r. do ⌜ (← ⟦Input::MOST_BYTES⟧ .entry) ≡ length r ⌝ }
+{
+    [0; Input::MOST_BYTES]
+}
+
+// A number in four columns.
+fn print_column(n: u64) {
+    let text = fields::columns(n);
+    io::write_all(STDOUT_FILENO, &text);
+}
 
 // A sheet: number, place, and whether the record is one.
 fn print_reading(sheet: &[u8]) {
     let reading = reader::read(sheet);
     let net = reading.net;
-    print_place(reading.answer);
+    print_column(reading.answer.number as u64);
+    print_column(reading.answer.place as u64);
     print_column(if record::is_record(net) { 1 } else { 0 });
 }
 
@@ -46,12 +59,18 @@ fn print_job(bytes: &[u8]) {
     }
 }
 
+// A note, which ends the line of the case before it.
+fn print_note(note: &[u8]) {
+    io::write_all(STDOUT_FILENO, note);
+}
+
 // The answer of the case at a place, by its kind.
 fn print_answer(cases: &[u8], at: usize)
     requires { ⌜ at < length (now cases) ⌝ }
 {
     let bytes = data_of(cases, at);
     match cases[at] {
+        b'#' => print_note(bytes),
         b'S' => print_reading(bytes),
         b'L' => print_line(bytes, large_at(cases, at + Case::FIRST) as usize),
         _ => print_job(bytes),
@@ -62,7 +81,6 @@ fn run_cases(cases: &[u8]) {
     let mut at: usize = 0;
     while at < cases.len() {
         print_answer(cases, at);
-        print_note(cases, at);
         at = next_case(cases, at);
     }
 }

@@ -8,7 +8,6 @@ ghost use Prim.Native.Nat.{_≤_};
 ghost use lib.Dec.{eqb};
 ghost use Rattle.net.specs.Limits.{mostVertices};
 ghost use Rattle.net.specs.Graph.{isStorage};
-ghost use Rattle.net.specs.SignalTable.{signalCount};
 ghost use Rattle.net.specs.Tables.{Prepared, inputLabels, markSymbol, markEnd, signalFlags};
 
 fn input_label(role: u8, label: u16) -> u16
@@ -92,18 +91,4 @@ pub fn signal_flags<'a>(
         );
     }
     flags
-}
-
-// The number of signals of y's component.
-pub fn signal_count<'a>(
-    net: Net,
-    storage: &'a [u8; Net::VERTEX_PLACES],
-    labels: &'a [u8; Net::VERTEX_PLACES],
-    y: u8,
-) -> usize
-    requires { ⌜ Prepared net (now storage) (now labels) × (isStorage net y ≡ true) ⌝ }
-    ensures { λ r. ⌜ r ≡ signalCount net y ⌝ }
-{
-    let flags = signal_flags(net, storage, labels, y);
-    flags::count_flags(&flags)
 }

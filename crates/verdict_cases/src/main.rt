@@ -2,21 +2,37 @@
 //! tests/verdict_cases.py tells the layout of a case and where each expected answer comes from.
 
 ghost use Prim.Native.Nat.{_<_};
+ghost use mathlib.Core.Path.{_≡_};
 ghost use lib.ListN.{length};
 use cases::Case;
-use cases::case_in_force;
+use cases::Input;
 use cases::data_of;
 use cases::large_at;
 use cases::next_case;
 use libc::STDIN_FILENO;
 use libc::STDOUT_FILENO;
 use net::Net;
-use printing::input_buffer;
-use printing::print_column;
-use printing::print_note;
-use printing::print_place;
 use sheet::Answer;
 use soundness::Excited;
+
+// The buffer for the input. The clause tells its length, which lending a part needs.
+fn input_buffer() -> [u8; Input::MOST_BYTES]
+    ensures { λ r. do ⌜ (← ⟦Input::MOST_BYTES⟧ .entry) ≡ length r ⌝ }
+{
+    [0; Input::MOST_BYTES]
+}
+
+// A number in four columns.
+fn print_column(n: u64) {
+    let text = fields::columns(n);
+    io::write_all(STDOUT_FILENO, &text);
+}
+
+// A number and its place.
+fn print_place(answer: Answer) {
+    print_column(answer.number as u64);
+    print_column(answer.place as u64);
+}
 
 // The excitation of one vertex: 0 and the value, or the number and 0.
 fn print_excitation(net: Net, input: u32, key: u32, vertex: u32) {
@@ -73,13 +89,25 @@ fn print_answer(cases: &[u8], at: usize, sheet: &[u8])
     }
 }
 
+// Prints a note as it stands, which ends the line of the case before it; of any other case the answer, for the sheet of the case that brought one last.
+fn print_case(cases: &[u8], at: usize, from: usize)
+    requires { ⌜ at < length (now cases) ⌝ }
+{
+    if cases[at] == b'#' {
+        io::write_all(STDOUT_FILENO, data_of(cases, at));
+    } else {
+        print_answer(cases, at, data_of(cases, from));
+    }
+}
+
 fn run_cases(cases: &[u8]) {
     let mut at: usize = 0;
     let mut from: usize = 0;
     while at < cases.len() {
-        from = case_in_force(cases, at, from);
-        print_answer(cases, at, data_of(cases, from));
-        print_note(cases, at);
+        if cases[at] == b'N' {
+            from = at;
+        }
+        print_case(cases, at, from);
         at = next_case(cases, at);
     }
 }

@@ -1,4 +1,4 @@
--- The data stand after the note; beyond the input there are none.
+-- The data stand after their size; beyond the input there are none.
 use native.Mathlib.Omega.{arith}
 use borrow.Author.Needs.{needs}
 use Rattle.cases.specs.Input.{dataOf}
@@ -19,15 +19,6 @@ returns : tie.Need-returns
 unfolding dataOf
 returns c = part-missing _ _ _ (omega arith)
 
-add-number-at : tie.Need-add-number-at
-add-number-at c = search needs
-
-number-at-requires : tie.Need-number-at-requires
-number-at-requires c κs = search needs
-
-cast-note-size : tie.Need-cast-note-size
-cast-note-size c = search needs
-
 add-large-at : tie.Need-add-large-at
 add-large-at c = search needs
 
@@ -40,15 +31,12 @@ cast-size c = search needs
 add-part : tie.Need-add-part
 add-part c = search needs
 
-add-part-2 : tie.Need-add-part-2
-add-part-2 c = search needs
-
 part-requires : tie.Need-part-requires
 part-requires c κs = search needs
 
 returns-2 : tie.Need-returns-2
 unfolding dataOf
-returns-2 c = rw (c .part .ensures, c .before .large-at .ensures, c .before .before .number-at .ensures)
+returns-2 c = rw (c .part .ensures, c .before .large-at .ensures)
 
 pub data-of-spec : {M : Type 1} → statement M
 data-of-spec =
@@ -58,13 +46,9 @@ data-of-spec =
     part-result-start
     part-result-end
     returns
-    add-number-at
-    number-at-requires
-    cast-note-size
     add-large-at
     large-at-requires
     cast-size
     add-part
-    add-part-2
     part-requires
     returns-2)

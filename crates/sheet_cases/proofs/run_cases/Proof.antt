@@ -18,15 +18,12 @@ loop-holds c = search needs
 print-answer-requires : tie.Need-print-answer-requires Inv-loop μ-loop
 print-answer-requires c κs = search needs
 
-print-note-requires : tie.Need-print-note-requires Inv-loop μ-loop
-print-note-requires c κs = search needs
-
 next-case-requires : tie.Need-next-case-requires Inv-loop μ-loop
 next-case-requires c κs = search needs
 
 loop-less : tie.Need-loop-less Inv-loop μ-loop
 loop-less c =
-    let t = c .before .before .before in
+    let t = c .before .before in
     rw (c .next-case .ensures) (next-less (t .before .before .before .args .cases .now) _ (t .loop-test .taken))
 
 loop-again : tie.Need-loop-again Inv-loop μ-loop
@@ -38,4 +35,4 @@ returns c = search needs
 pub run-cases-spec : {M : Type 1} → statement M
 run-cases-spec =
     tie.close
-    (tie.spec Inv-loop μ-loop loop-holds print-answer-requires print-note-requires next-case-requires loop-less loop-again returns)
+    (tie.spec Inv-loop μ-loop loop-holds print-answer-requires next-case-requires loop-less loop-again returns)

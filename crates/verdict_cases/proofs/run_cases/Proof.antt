@@ -15,24 +15,18 @@ abbrev μ-loop : tie.MeasureT-loop
 loop-holds : tie.Need-loop-holds Inv-loop μ-loop
 loop-holds c = search needs
 
-case-in-force-requires : tie.Need-case-in-force-requires Inv-loop μ-loop
-case-in-force-requires c κs = search needs
+shared-slice-read-if1 : tie.Need-shared-slice-read-if1 Inv-loop μ-loop
+shared-slice-read-if1 c = search needs
 
-data-of-requires : tie.Need-data-of-requires Inv-loop μ-loop
-data-of-requires c κs = search needs
-
-print-answer-requires : tie.Need-print-answer-requires Inv-loop μ-loop
-print-answer-requires c κs = search needs
-
-print-note-requires : tie.Need-print-note-requires Inv-loop μ-loop
-print-note-requires c κs = search needs
+print-case-requires : tie.Need-print-case-requires Inv-loop μ-loop
+print-case-requires c κs = search needs
 
 next-case-requires : tie.Need-next-case-requires Inv-loop μ-loop
 next-case-requires c κs = search needs
 
 loop-less : tie.Need-loop-less Inv-loop μ-loop
 loop-less c =
-    let t = c .before .before .before .before .before in
+    let t = c .before .before .before .before in
     rw (c .next-case .ensures) (next-less (t .before .before .before .args .cases .now) _ (t .loop-test .taken))
 
 loop-again : tie.Need-loop-again Inv-loop μ-loop
@@ -44,15 +38,4 @@ returns c = search needs
 pub run-cases-spec : {M : Type 1} → statement M
 run-cases-spec =
     tie.close
-    (tie.spec
-    Inv-loop
-    μ-loop
-    loop-holds
-    case-in-force-requires
-    data-of-requires
-    print-answer-requires
-    print-note-requires
-    next-case-requires
-    loop-less
-    loop-again
-    returns)
+    (tie.spec Inv-loop μ-loop loop-holds shared-slice-read-if1 print-case-requires next-case-requires loop-less loop-again returns)
