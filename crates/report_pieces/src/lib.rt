@@ -1,5 +1,7 @@
 //! The lines of the jobs of a piece, as a call. What it writes stands in the crate `output`.
 
+mod job_lines;
+mod line_vectors;
 mod pieces;
 
 use output::Report;

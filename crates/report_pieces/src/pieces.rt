@@ -78,8 +78,8 @@ fn run<'a, 'b>(
     if answer.number != 0 {
         return 0;
     }
-    job_lines::write_jobs(out, h, count, first, results, answers);
-    (count * job_lines::job_bytes(h)) as u32
+    crate::job_lines::write_jobs(out, h, count, first, results, answers);
+    (count * crate::job_lines::job_bytes(h)) as u32
 }
 
 // Writes the text of the jobs of lines that are read, and answers how many bytes it has.

@@ -1,4 +1,4 @@
-//! What the verdict and the call for one vertex answer: definitions and laws. The code is in the crate `verdict`.
+//! What the verdict and the call for one vertex answer: definitions and laws. The code is in the crates `verdict` and `vertex_excitation`.
 
 // The excitation of one vertex: its value, or a number.
 pub enum Excited {

@@ -1,4 +1,4 @@
--- `report::goes_on` meets its contract: one case for each number after which the jobs are run, and the rest. Assumes nothing.
+-- `report_opening::goes_on` meets its contract: one case for each number after which the jobs are run, and the rest. Assumes nothing.
 use Prim.Native.Nat.{ℕ}
 use native.Mathlib.Omega.{arith}
 use mathlib.Core.Path.{_≡_, refl}

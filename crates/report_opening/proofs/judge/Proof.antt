@@ -1,4 +1,4 @@
--- `report::judge` meets its contract: the reader's answer, then the verdict. Of the places, e is where the reader has not refused, v after the verdict. Assumes nothing.
+-- `report_opening::judge` meets its contract: the reader's answer, then the verdict. Of the places, e is where the reader has not refused, v after the verdict. Assumes nothing.
 use native.Mathlib.Omega.{arith}
 use borrow.Author.Needs.{needs}
 use Rattle.sheet.proofs.Outcome.{valid-at-zero}

@@ -1,4 +1,4 @@
--- `report::opening` meets its contract: the room, then what the sheet is judged to be, as a line. Of the places, w is the one after the line is written.
+-- `report_opening::opening` meets its contract: the room, then what the sheet is judged to be, as a line. Of the places, w is the one after the line is written.
 -- Assumes nothing.
 use native.Mathlib.Omega.{arith}
 use borrow.Author.Needs.{needs}

@@ -1,4 +1,4 @@
--- `report::said` meets its contract: the jobs are run, or they are not. Assumes nothing.
+-- `report_opening::said` meets its contract: the jobs are run, or they are not. Assumes nothing.
 use borrow.Author.Needs.{needs}
 use Rattle.report_opening.proofs.said.Statement.{statement}
 use Rattle.report_opening.proofs.said.Tie as tie

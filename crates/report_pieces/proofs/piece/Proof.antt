@@ -1,4 +1,4 @@
--- `report::piece` meets its contract: the room, the reader's answer, then the lines that are read. Of the places, e is where the reader has not refused,
+-- `report_pieces::piece` meets its contract: the room, the reader's answer, then the lines that are read. Of the places, e is where the reader has not refused,
 -- l the one after the lines are taken, w after the text is written. Assumes nothing.
 use native.Mathlib.Omega.{arith}
 use borrow.Author.Needs.{needs}

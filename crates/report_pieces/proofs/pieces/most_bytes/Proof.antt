@@ -1,4 +1,4 @@
--- `report::pieces::most_bytes` meets its contract: by what is left up to the last job. Assumes nothing.
+-- `pieces::most_bytes` meets its contract: by what is left up to the last job. Assumes nothing.
 use native.Mathlib.Omega.{arith}
 use borrow.Author.Needs.{needs}
 use Rattle.output.proofs.ReadLines.{none-left, piece-left, few-left}

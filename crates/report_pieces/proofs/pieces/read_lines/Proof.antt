@@ -1,4 +1,4 @@
--- `report::pieces::read_lines` meets its contract: all lines, or the first of them. Assumes nothing.
+-- `pieces::read_lines` meets its contract: all lines, or the first of them. Assumes nothing.
 use borrow.Author.Needs.{needs}
 use Rattle.output.proofs.ReadLines.{read-all, read-part}
 use Rattle.report_pieces.proofs.pieces.read_lines.Statement.{statement}

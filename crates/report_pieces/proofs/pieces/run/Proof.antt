@@ -1,4 +1,4 @@
--- `report::pieces::run` meets its contract: nothing where the batch is refused, else the lines of the jobs. Of the places, s is the start, b the one after the
+-- `pieces::run` meets its contract: nothing where the batch is refused, else the lines of the jobs. Of the places, s is the start, b the one after the
 -- batch, e where it is not refused, w after the lines are written. Assumes nothing.
 use native.Mathlib.Omega.{arith}
 use borrow.Author.Needs.{needs}

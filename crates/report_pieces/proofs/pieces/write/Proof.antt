@@ -1,4 +1,4 @@
--- `report::pieces::write` meets its contract: buffers of just the size that the jobs need, and the jobs in them. Of the places, s is the start, j the one after
+-- `pieces::write` meets its contract: buffers of just the size that the jobs need, and the jobs in them. Of the places, s is the start, j the one after
 -- the jobs are counted, k after the key nodes are, a after both buffers are made. Assumes nothing.
 use Prim.Native.Nat.{ℕ, _*_, _≤_}
 use native.Mathlib.Omega.{arith}
