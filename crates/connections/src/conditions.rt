@@ -4,10 +4,10 @@ use net::Kind;
 use net::Net;
 use net::Symbol;
 ghost use mathlib.Core.Path.{_≡_};
-ghost use Prim.Native.Nat.{_*_};
-ghost use lib.ListN.{replicate};
+ghost use Prim.Native.Nat.{suc, _≤_, _*_};
+ghost use lib.ListN.{length, replicate};
 ghost use Rattle.ternary.specs.Bits.{digit};
-ghost use Rattle.net.specs.Limits.{mostEdges};
+ghost use Rattle.net.specs.Limits.{mostSignals, mostEdges};
 ghost use Rattle.net.specs.Symbols.{decode};
 ghost use Rattle.net.specs.State.{admits, conditionOf};
 ghost use Rattle.net.specs.Tables.{storageFlags};
@@ -56,6 +56,25 @@ fn usable_at(kind: Kind, form: u8, symbol: u16, bit: u8) -> u8
     )
 }
 
+// Row v takes one of two values, by column p.
+fn choose_row<'a>(
+    rows: &'a mut [u8],
+    v: usize,
+    columns: &'a [u8; Net::COLUMN_LANES],
+    p: usize,
+    low: u8,
+    high: u8,
+)
+    requires { ⌜ (suc v * lane-spec.assignments ≤ length (now rows)) × (p ≤ mostSignals) × (now columns ≡ lane-spec.columns) ⌝ }
+    ensures { λ r. ⌜ now (rows .exit) ≡ lane-spec.chooseRow v p low high (now (rows .entry)) ⌝ }
+{
+    let to = v * Net::ASSIGNMENTS;
+    let from = p * Net::ASSIGNMENTS;
+    for w in 0..Net::ASSIGNMENTS {
+        rows[to + w] = lane_values::chosen(low, high, columns[from + w]);
+    }
+}
+
 // 1 where a connection of a kind may use an edge, at each assignment of the signals of the component that the edge touches. The table comes as zeros.
 pub(crate) fn usable_lanes<'a, 'b>(
     on: &'a mut [u8; Net::EDGE_LANES],
@@ -71,12 +90,12 @@ pub(crate) fn usable_lanes<'a, 'b>(
     let count = net.edge_count as usize;
     for i in 0..count {
         let edge = net.edges[i];
-        let y = lane_rows::chosen(edge.end2, edge.end1, storage[edge.end1 as usize]) as usize;
+        let y = lane_values::chosen(edge.end2, edge.end1, storage[edge.end1 as usize]) as usize;
         if storage[y] == 1 {
             let p = places[y * Symbol::BOUND + edge.symbol as usize];
             let low = usable_at(kind, edge.form, edge.symbol, 0);
             let high = usable_at(kind, edge.form, edge.symbol, 1);
-            lane_rows::choose_row(on, i, columns, p as usize, low, high);
+            choose_row(on, i, columns, p as usize, low, high);
         }
     }
 }

@@ -39,7 +39,7 @@ pub(crate) fn mark_row<'a>(
     for w in 0..Net::ASSIGNMENTS {
         marks[to + w] = raised(
             on[edge + w],
-            lane_rows::chosen(low, high, columns[from + w]),
+            lane_values::chosen(low, high, columns[from + w]),
             marks[to + w],
         );
     }

@@ -43,8 +43,8 @@ fn driven<'a>(
     for i in 0..count {
         let edge = net.edges[i];
         let flag = storage[edge.end1 as usize];
-        let y = lane_rows::chosen(edge.end2, edge.end1, flag) as usize;
-        let x = lane_rows::chosen(edge.end1, edge.end2, flag) as usize;
+        let y = lane_values::chosen(edge.end2, edge.end1, flag) as usize;
+        let x = lane_values::chosen(edge.end1, edge.end2, flag) as usize;
         if storage[y] == 1 && storage[x] != 1 {
             let label = inputs[x];
             let p = places[y * Symbol::BOUND + label as usize];

@@ -59,7 +59,7 @@ pub fn tables<'a>(
     let lanes = &excitations[..];
     let mut rows = [0u8; Net::TERNARY_TABLES];
     for k in 0..count {
-        let from = lane_rows::wide(keys[k]) * Net::ASSIGNMENTS;
+        let from = lane_values::wide(keys[k]) * Net::ASSIGNMENTS;
         let to = from + Net::ASSIGNMENTS;
         let start = k * Net::TERNARY_ASSIGNMENTS;
         let end = start + Net::TERNARY_ASSIGNMENTS;

@@ -17,6 +17,17 @@ ghost use Rattle.excitations.specs.Fit.{Fit};
 ghost use Rattle.excitations.specs.Conditions.{signalPlaces};
 ghost use Rattle.excitations.specs.Excitations.{excitationLanes, fightLanes};
 
+// Row p holds bit p of each assignment.
+fn columns() -> [u8; Net::COLUMN_LANES]
+    ensures { λ r. ⌜ r ≡ lane-spec.columns ⌝ }
+{
+    let mut bits = [0u8; Net::COLUMN_LANES];
+    for i in 0..Net::COLUMN_LANES {
+        bits[i] = (((i % Net::ASSIGNMENTS) >> (i / Net::ASSIGNMENTS)) % 2) as u8;
+    }
+    bits
+}
+
 // n0, c0: an n-connection, a connection to 0. p1, c1: a p-connection, a connection to 1.
 fn excited(n0: u8, c0: u8, p1: u8, c1: u8) -> u8
     ensures { λ r. ⌜ r ≡ excitationOf (eqb n0 1) (eqb c0 1) (eqb p1 1) (eqb c1 1) ⌝ }
@@ -100,7 +111,7 @@ pub fn fill<'a>(
     let labels = component_labels::component_labels(net, &storage);
     let inputs = signals::input_labels(net);
     let places = signal_places::signal_places(net, &storage, &labels);
-    let columns = lane_rows::columns();
+    let columns = columns();
     fill_from(
         net,
         &storage,

@@ -1,4 +1,4 @@
--- `lane_rows::choose_row` meets its contract: the entries before w of row v are stored. Assumes nothing.
+-- `conditions::choose_row` meets its contract: the entries before w of row v are stored. Assumes nothing.
 use native.Mathlib.Omega.{arith}
 use borrow.Author.Needs.{needs}
 use mathlib.Core.Path.{ap, _∙_}
@@ -7,8 +7,8 @@ use Prim.Native.Nat.{ℕ, _≤_, _-_}
 use Rattle.lanes.specs.Grid.{setRow}
 use Rattle.lanes.specs.Lanes.{assignments, lane, chosen, chooseRow}
 use Rattle.lanes.proofs.GridLaws.{RowFilled, row-start, row-step, row-end}
-use Rattle.lane_rows.proofs.choose_row.Statement.{statement}
-use Rattle.lane_rows.proofs.choose_row.Tie as tie
+use Rattle.connections.proofs.conditions.choose_row.Statement.{statement}
+use Rattle.connections.proofs.conditions.choose_row.Tie as tie
 
 abbrev Inv-loop : tie.InvT-loop
 Inv-loop rows₀ v columns p low high to from w₀ rows w =

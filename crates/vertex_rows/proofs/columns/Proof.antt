@@ -1,4 +1,4 @@
--- `lane_rows::columns` meets its contract: the entries before i are stored. Assumes nothing.
+-- `vertex_rows::columns` meets its contract: the entries before i are stored. Assumes nothing.
 use native.Mathlib.Omega.{arith}
 use borrow.Author.Needs.{needs}
 use mathlib.Core.Path.{sym}
@@ -9,8 +9,8 @@ use Rattle.net.specs.Limits.{mostSignals}
 use Rattle.net.proofs.Filling.{Filled, fill-zeros, fill-step, fill-all}
 use Rattle.lanes.specs.Grid.{grid}
 use Rattle.lanes.specs.Lanes.{assignments, columns}
-use Rattle.lane_rows.proofs.columns.Statement.{statement}
-use Rattle.lane_rows.proofs.columns.Tie as tie
+use Rattle.vertex_rows.proofs.columns.Statement.{statement}
+use Rattle.vertex_rows.proofs.columns.Tie as tie
 
 abbrev size : ℕ
 size = suc mostSignals * assignments
