@@ -17,6 +17,7 @@ use Rattle.sheet.specs.Valid.{valid}
 use Rattle.sheet.specs.Job.{jobOf, jobNumber}
 use Rattle.sheet.proofs.RowLaws.{first-none, by-rows-none}
 use Rattle.sheet.proofs.ReadLaws.{valid-iff-accepted}
+use Rattle.sheet.proofs.SheetRowLaws.{sheet-zero, sheet-number, sheet-refused, sheet-accepted}
 use Rattle.sheet.proofs.Outcome.{Outcome, outcome}
 use Rattle.sheet.proofs.LineLaws.{FullLine, line-found, line-missing, line-empty}
 use Rattle.sheet.proofs.JobLaws.{JobBytes, job-number as line-refused}
@@ -30,15 +31,22 @@ use Rattle.settlements.specs.Settle.{settleOf}
 use Rattle.settlements.specs.Batch.{jobCount, pieces, jobWidth, jobSettlement, runJobs, Batch, batchRows, batchOf}
 use Rattle.settlements.proofs.SettleLaws.{settle-zero, settle-number, settle-refused}
 use Rattle.settlements.proofs.BatchLaws.{vectorsOf, answerBytes, settlementAt, results-at, answers-at, results-rest, answers-rest, length-pieces, piece-at, batch-zero, batch-number, batch-refused}
-use Rattle.demands.specs.Demand1.{Answers, SettleAnswers, BatchAnswers, lineOf, resultOf, answerOf, JobAnswers}
+use Rattle.demands.specs.Demand1.{Answers, SheetAnswers, SettleAnswers, BatchAnswers, lineOf, resultOf, answerOf, JobAnswers}
 use Rattle.demands.proofs.Fit.{batch-fit}
 use Rattle.demands.proofs.JobRows.{job-answers, job-untouched}
 use Rattle.demands.proofs.Unplaced.{Unplaced, no-row, a-row, by-number}
 
--- ---- the reader: every sheet is accepted, or refused with the empty record and one of the listed numbers, at a place that this number can have
+-- ---- the reader: a number exactly if its row is the first that holds; and what is refused has a listed number, at a place that this number can have
 
-pub demand1-sheet : (sheet : List ℕ) → Outcome (readSheet sheet)
-demand1-sheet = outcome
+pub demand1-sheet : (sheet : List ℕ) → SheetAnswers sheet (readSheet sheet)
+demand1-sheet sheet = record {
+  answered = record { fit = sheet-zero sheet; wrong = sheet-number sheet };
+  empty = sheet-refused sheet;
+  read = sheet-accepted sheet;
+}
+
+pub demand1-listed : (sheet : List ℕ) → Outcome (readSheet sheet)
+demand1-listed = outcome
 
 -- number 41 is for the records that no accepted sheet gives
 pub demand1-record : (N : Net) → (valid N ≡ true) ↔ ((sheet : List ℕ) × (readSheet sheet ≡ accepted N))

@@ -2,6 +2,7 @@ pub mod Fit
 pub mod Unplaced
 pub mod JobRows
 pub mod Demand1
+pub mod SheetCalls
 pub mod Vectors
 pub mod Demand3
 pub mod Demand2

@@ -3,24 +3,51 @@
 use Prim.Native.Nat.{ℕ, _*_, _≤_}
 use mathlib.Core.Path.{_≡_}
 use mathlib.Core.Logic.{_↔_}
-use mathlib.Core.List.{List, [], _∷_}
+use mathlib.Core.List.{List, [], _∷_, _++_}
 use mathlib.Core.Option.{none, some}
 use lib.ListN.{take, drop}
 use Rattle.ternary.specs.Signal.{at}
 use Rattle.net.specs.declared.Net.{Net}
+use Rattle.net.specs.Graph.{keyCount}
 use Rattle.sheet.specs.declared.Answer.{Answer}
+use Rattle.sheet.specs.declared.Reading.{Reading}
 use Rattle.sheet.specs.declared.JobLine.{JobLine}
 use Rattle.sheet.specs.declared.JobLine.the-variants.{Asked, Refused}
 use Rattle.sheet.specs.Limits.{lineWidth}
 use Rattle.sheet.specs.Rows.{answer, Row, row, First, NoRow}
+use Rattle.sheet.specs.Record.{refused, accepted}
+use Rattle.sheet.specs.SheetRows.{netOf, sheetRows}
 use Rattle.sheet.specs.Job.{jobOf, jobNumber}
+use Rattle.soundness.specs.Verdict.{verdictRows}
 use Rattle.settlements.specs.Settle.{Settlement, unsettled, settleRows}
-use Rattle.settlements.specs.Batch.{jobCount, jobWidth, answerWidth, jobRows, Batch, batchRows}
+use Rattle.settlements.specs.Batch.{jobCount, jobWidth, answerWidth, jobRows, Batch, batched, batchRows}
+use Rattle.output.specs.declared.Judged.{Judged}
+use Rattle.output.specs.ForC.{SheetBatch}
 
 -- a call answers by its rows: number 0 exactly if no row's condition holds, and a number with its place exactly if its row is the first that holds
 pub record Answers (rows : List Row) (given : Answer) : Type 0 where
   pub fit : (given .number ≡ 0) ↔ NoRow rows
   pub wrong : (n p : ℕ) → 1 ≤ n → (given ≡ answer n p) ↔ First rows n p
+
+-- the reader: a refusal has the empty record; without one, the record is that of the sheet's lines
+pub record SheetAnswers (sheet : List ℕ) (given : Reading) : Type 0 where
+  pub answered : Answers (sheetRows sheet) (given .answer)
+  pub empty : (n p : ℕ) → First (sheetRows sheet) n p → given ≡ refused (answer n p)
+  pub read : NoRow (sheetRows sheet) → given ≡ accepted (netOf sheet)
+
+-- what a sheet is judged to be: the rows of the reader come first, with h at 0, then those of the verdict
+pub record JudgedAnswers (sheet : List ℕ) (given : Judged) : Type 0 where
+  pub answered : Answers (sheetRows sheet ++ verdictRows (netOf sheet)) (given .answer)
+  pub unread : (n p : ℕ) → First (sheetRows sheet) n p → given .keys ≡ 0
+  pub read : NoRow (sheetRows sheet) → given .keys ≡ keyCount (netOf sheet)
+
+-- a batch on a sheet: the rows of the reader come first, then those of a batch; under a number of either both buffers stay as they were
+pub record SheetBatchAnswers (sheet jobs results answers : List ℕ) (given : SheetBatch) : Type 0 where
+  pub answered : Answers (sheetRows sheet ++ batchRows (netOf sheet) (jobCount jobs) results answers) (given .batch .answer)
+  pub untouched : (n p : ℕ) → First (sheetRows sheet ++ batchRows (netOf sheet) (jobCount jobs) results answers) n p
+      → given .batch ≡ batched (answer n p) results answers
+  pub unread : (n p : ℕ) → First (sheetRows sheet) n p → given .keys ≡ 0
+  pub read : NoRow (sheetRows sheet) → given .keys ≡ keyCount (netOf sheet)
 
 -- settling: a refusal has counts 0 and leaves both buffers as they were
 pub record SettleAnswers (N : Net) (A B q : ℕ) (R T : List ℕ) (S : Settlement) : Type 0 where

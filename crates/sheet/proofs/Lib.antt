@@ -24,6 +24,8 @@ pub mod LoopLaws
 pub mod ReaderSteps
 pub mod HeaderSteps
 pub mod RecordSteps
+pub mod PlacedLaws
+pub mod SheetRowLaws
 pub mod Outcome
 pub mod Known
 pub mod JobLaws

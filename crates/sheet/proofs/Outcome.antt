@@ -9,7 +9,7 @@ use lib.Dec.{eqb}
 use lib.ListN.{length, take, drop}
 use Rattle.net.specs.declared.Net.{Net}
 use Rattle.net.specs.Limits.{mostVertices}
-use Rattle.ternary.proofs.Tests.{ands, cond-by}
+use Rattle.ternary.proofs.Tests.{cond-by}
 use Rattle.sheet.specs.declared.Answer.{Answer}
 use Rattle.sheet.specs.declared.Reading.{Reading}
 use Rattle.sheet.specs.Limits.{lineWidth, mostLines}
@@ -23,7 +23,7 @@ use Rattle.sheet.specs.Graph.{graphRows}
 use Rattle.sheet.specs.Reading.{Step, conclude, readLines, sizeOk, readHeader, readSheet}
 use Rattle.sheet.specs.Valid.{valid}
 use Rattle.sheet.proofs.RowLaws.{RowsAnswer, nothing, found, rows-answer}
-use Rattle.sheet.proofs.RuleLaws.{Counts, counts-facts}
+use Rattle.sheet.proofs.RuleLaws.{Counts, header-counts}
 use Rattle.sheet.proofs.GraphLaws.{partner-some, key-vertex, signal-vertex}
 use Rattle.sheet.proofs.LineInversion.{Stepped, vertex, edge, not-fields, not-vertex, not-edge, stepped, afterStep}
 use Rattle.sheet.proofs.ReadLaws.{read-valid}
@@ -74,10 +74,6 @@ lines-outcome (suc left) rest j N c h =
     go ih not-fields = refuse (fields (j + 2) (omega arith) (omega arith))
     go ih not-vertex = refuse (vertex-line (j + 2) (omega arith) (omega arith))
     go ih not-edge = refuse (edge-line (j + 2) (omega arith) (omega arith))
-
-header-counts : (h : Line) → headerOk h ≡ true → Counts (h .second) (h .third) (h .fourth)
-unfolding headerOk
-header-counts h ok = counts-facts (h .second) (h .third) (h .fourth) (search ands)
 
 header-outcome : (b : List ℕ) (o : Option Line) → Outcome (readHeader b o)
 unfolding readHeader startNet

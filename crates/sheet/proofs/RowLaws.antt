@@ -3,14 +3,14 @@ use Prim.Native.Nat.{ℕ, _≤_}
 use native.Mathlib.Omega.{arith}
 use mathlib.Core.Path.{_≡_, refl, sym, ap, subst, _∙_}
 use mathlib.Core.Logic.{_↔_}
-use mathlib.Core.Bool.{Bool, true, false, _&&_, true≢false}
-use mathlib.Core.List.{List, [], _∷_}
+use mathlib.Core.Bool.{Bool, true, false, not, cond, _&&_, true≢false}
+use mathlib.Core.List.{List, [], _∷_, _++_}
 use mathlib.Core.Option.{Option, none, some}
 use lib.Dec.{leb}
 use borrow.Author.Tests.{leb-true}
-use Rattle.ternary.proofs.Tests.{ands}
+use Rattle.ternary.proofs.Tests.{ands, both}
 use Rattle.sheet.specs.declared.Answer.{Answer}
-use Rattle.sheet.specs.Rows.{answer, Row, when, firstRow, byRows, answered, First, NoRow}
+use Rattle.sheet.specs.Rows.{answer, Row, row, whenAt, when, firstRow, byRows, answered, First, NoRow}
 use Rattle.sheet.specs.Rows.First.{here, later}
 use Rattle.sheet.specs.Rows.NoRow.{end, next}
 
@@ -79,12 +79,52 @@ module _ {A : Type 0} (rs : List Row) (x : A) (refuse : Answer → A) where
       go none h = ap answerOf (by-rows-none h) ∙ e
       go (some a) h = ap answerOf (by-rows-some a h) ∙ f a
 
+  -- a row whose condition is that c fails: where it does the call is refused, else the later rows tell what it gives
+  pub by-rows-tested : (c : Bool) (n p : ℕ) {y : A} → (c ≡ true → y ≡ byRows rs x refuse)
+      → cond c y (refuse (answer n p)) ≡ byRows (row n (whenAt p (not c)) ∷ rs) x refuse
+  unfolding byRows firstRow
+  by-rows-tested true n p e = e refl
+  by-rows-tested false n p e = refl
+
+  -- what is made of it, by the same rows
+  pub by-rows-map : {B : Type 0} (f : A → B) → f (byRows rs x refuse) ≡ byRows rs (f x) (λ a. f (refuse a))
+  unfolding byRows
+  by-rows-map f = go (firstRow rs)
+    where
+      go : (o : Option Answer) → f (elim o as (λ _. A) [ none ↦ x | some a ↦ refuse a ]) ≡ elim o [ none ↦ f x | some a ↦ f (refuse a) ]
+      go none = refl
+      go (some a) = refl
+
+  passed-row : (r : Row) → r .place ≡ none → byRows (r ∷ rs) x refuse ≡ byRows rs x refuse
+  unfolding byRows firstRow
+  passed-row r h = rw h
+
+  refusing-row : (r : Row) (p : ℕ) → r .place ≡ some p → byRows (r ∷ rs) x refuse ≡ refuse (answer (r .number) p)
+  unfolding byRows firstRow
+  refusing-row r p h = rw h
+
+-- rows after others are those of what the others let through
+pub by-rows-append : {A : Type 0} (rs ss : List Row) (x : A) (refuse : Answer → A) → byRows (rs ++ ss) x refuse ≡ byRows rs (byRows ss x refuse) refuse
+unfolding byRows firstRow
+by-rows-append [] ss x refuse = refl
+by-rows-append (r ∷ rs) ss x refuse = go (by-rows-append rs ss x refuse) (r .place) refl
+  where
+    go : byRows (rs ++ ss) x refuse ≡ byRows rs (byRows ss x refuse) refuse
+        → (o : Option ℕ) → r .place ≡ o → byRows (r ∷ (rs ++ ss)) x refuse ≡ byRows (r ∷ rs) (byRows ss x refuse) refuse
+    go e none h = passed-row (rs ++ ss) x refuse r h ∙ e ∙ sym (passed-row rs (byRows ss x refuse) refuse r h)
+    go e (some p) h = refusing-row (rs ++ ss) x refuse r p h ∙ sym (refusing-row rs (byRows ss x refuse) refuse r p h)
+
 -- ---- what a call answers with: number 0 stands for no row, if no row has it
 
 -- every row's number is at least 1
 unfoldable pub positive : List Row → Bool
 positive [] = true
 positive (r ∷ rs) = leb 1 (r .number) && positive rs
+
+pub positive-append : (rs ss : List Row) → positive rs ≡ true → positive ss ≡ true → positive (rs ++ ss) ≡ true
+unfolding positive
+positive-append [] ss a c = c
+positive-append (r ∷ rs) ss a c = both {a = leb 1 (r .number)} (search ands) (positive-append rs ss (search ands) c)
 
 pub positive-first : {rs : List Row} {n p : ℕ} → positive rs ≡ true → First rs n p → 1 ≤ n
 unfolding positive

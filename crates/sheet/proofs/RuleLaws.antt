@@ -14,7 +14,8 @@ use Rattle.net.specs.Graph.{noVertex, noEdge}
 use Rattle.net.specs.Known.{knownSymbol, knownLabel}
 use Rattle.net.proofs.Values.{within-low, within-high, decode-by}
 use Rattle.ternary.proofs.Tests.{ands, cond-by}
-use Rattle.sheet.specs.Rules.{countsOk, vertexOk, symbolOk, edgeOk}
+use Rattle.sheet.specs.declared.Line.{Line}
+use Rattle.sheet.specs.Rules.{countsOk, headerOk, vertexOk, symbolOk, edgeOk}
 use Rattle.sheet.specs.Valid.{isNoVertex, isNoEdge}
 
 pub record Counts (v e l : ℕ) : Type 0 where
@@ -32,6 +33,10 @@ counts-facts v e l h =
       edges = leb-true e mostEdges (search ands);
       letters = leb-true l mostLetters (search ands);
     }
+
+pub header-counts : (h : Line) → headerOk h ≡ true → Counts (h .second) (h .third) (h .fourth)
+unfolding headerOk
+header-counts h ok = counts-facts (h .second) (h .third) (h .fourth) (search ands)
 
 -- ---- known symbols and labels are below the bound of symbols
 

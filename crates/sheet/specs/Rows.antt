@@ -17,9 +17,12 @@ pub record Row : Type 0 where
 abbrev pub row : ℕ → Option ℕ → Row
 row n p = record { number = n; place = p }
 
--- a row with place 0, where the condition b holds
+-- the place p of a row, where the condition b holds; most rows have place 0
+abbrev pub whenAt : ℕ → Bool → Option ℕ
+whenAt p b = cond b (some p) none
+
 abbrev pub when : Bool → Option ℕ
-when b = cond b (some 0) none
+when b = whenAt 0 b
 
 -- the first row whose condition holds
 unfoldable pub firstRow : List Row → Option Answer

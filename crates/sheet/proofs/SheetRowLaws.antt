@@ -1,0 +1,217 @@
+-- Reading a sheet answers by document 01's rows, in their order; where none holds it gives the record of its lines.
+use Prim.Native.Nat.{ℕ, zero, suc, _+_, _-_, _*_, _/_, _≤_, _<_}
+use native.Mathlib.Nat.{zero-add, add-zero, add-suc, suc-add, mul-suc}
+use native.Mathlib.Omega.{arith}
+use mathlib.Core.Path.{_≡_, refl, ap, ap₂, _∙_}
+use mathlib.Core.Logic.{_↔_}
+use mathlib.Core.Bool.{Bool, true, false, not, cond}
+use mathlib.Core.List.{List, _∷_, _++_}
+use mathlib.Core.Option.{Option, none, some}
+use lib.Dec.{eqb}
+use lib.ListN.{length, drop, set}
+use lib.Seq.{drop-drop}
+use borrow.Author.Tests.{lt-ltb, le-ltb, ne-eqb}
+use Rattle.net.specs.declared.Vertex.{Vertex}
+use Rattle.net.specs.declared.Edge.{Edge}
+use Rattle.net.specs.declared.Net.{Net}
+use Rattle.net.specs.Limits.{mostVertices, mostEdges}
+use Rattle.net.specs.Graph.{noVertex, noEdge, vertexAt, hasRole, isStorage}
+use Rattle.sheet.specs.declared.Answer.{Answer}
+use Rattle.sheet.specs.declared.Reading.{Reading}
+use Rattle.sheet.specs.declared.Line.{Line}
+use Rattle.sheet.specs.Limits.{lineWidth}
+use Rattle.sheet.specs.Rows.{answer, Row, row, when, whenAt, firstRow, byRows, answered, First, NoRow}
+use Rattle.sheet.specs.Record.{startNet, refused, accepted}
+use Rattle.sheet.specs.Rules.{headerOk, vertexOk, symbolOk, edgeOk}
+use Rattle.sheet.specs.Graph.{graphRows}
+use Rattle.sheet.specs.Reading.{vertexOf, edgeOf, withVertices, withEdges, vertexLineOk, edgeLineOk, addLine, stepLine, conclude, readLines, sizeOk, readHeader, readSheet}
+use Rattle.sheet.specs.Reading.Step.{next, stop}
+use Rattle.sheet.specs.SheetRows.{lineAt, isMissing, numbersOf, placed, inTurn, header, netOf, vertexRows, edgeRows, sheetRows}
+use Rattle.sheet.proofs.RowLaws.{RowsAnswer, nothing, found, rows-answer, positive-first, by-rows-none, by-rows-some, by-rows-answer, by-rows-tested, positive, positive-append, first-none, first-some, answered-zero, answered-some}
+use Rattle.sheet.proofs.RuleLaws.{Counts, header-counts}
+use Rattle.sheet.proofs.PlacedLaws.{placed-none, placed-more}
+use Rattle.sheet.proofs.LineInversion.{afterStep}
+
+-- what a reading gives by its rows: the record N where none holds
+abbrev readBy : List Row → Net → Reading
+readBy rows N = byRows rows (accepted N) refused
+
+-- ---- one line: its fields, then its values
+
+module _ (left : ℕ) (rest : List ℕ) (j p n : ℕ) (line-number : p ≡ j + 2) (N N₁ : Net) (rs : List Row) (allowed : Line → Bool) (added : Line → Net)
+    (adds : (v : Line) → addLine N j v ≡ cond (allowed v) (next (added v)) (stop n)) where
+  after-test : (t : Bool) (M : Net) → afterStep left rest j (cond t (next M) (stop n)) ≡ cond t (readLines left rest (suc j) M) (refused (answer n p))
+  after-test true M = refl
+  after-test false M = rw line-number
+
+  line-by-rows : (o : Option Line) → (allowed (numbersOf o) ≡ true → readLines left rest (suc j) (added (numbersOf o)) ≡ readBy rs N₁)
+      → afterStep left rest j (stepLine o j N)
+      ≡ readBy (row 12 (whenAt p (isMissing o)) ∷ row n (whenAt p (not (allowed (numbersOf o)))) ∷ rs) N₁
+  unfolding stepLine byRows firstRow
+  line-by-rows none after = rw line-number
+  line-by-rows (some v) after =
+      ap (afterStep left rest j) (adds v) ∙ after-test (allowed v) (added v) ∙ by-rows-tested rs (accepted N₁) refused (allowed v) n p after
+
+-- ---- the lines below the header, with the record so far
+
+module _ (b : List ℕ) where
+  abbrev vertexCount : ℕ
+  vertexCount = (header b) .second
+
+  abbrev edgeCount : ℕ
+  edgeCount = (header b) .third
+
+  abbrev vertex : ℕ → Vertex
+  vertex j = vertexOf (numbersOf (lineAt b (1 + j)))
+
+  abbrev edge : ℕ → Edge
+  edge i = edgeOf (numbersOf (lineAt b (1 + vertexCount + i)))
+
+  -- all vertices and k edges are read
+  abbrev withEdge : ℕ → Net
+  withEdge k = withEdges (netOf b) (placed mostEdges k edge noEdge)
+
+  -- k vertices are read
+  abbrev withVertex : ℕ → Net
+  withVertex k = withEdges (withVertices (netOf b) (placed mostVertices k vertex noVertex)) (placed mostEdges 0 edge noEdge)
+
+  -- line n is taken off the front
+  read-line : (left n j : ℕ) (N : Net) → readLines (suc left) (drop (lineWidth * n) b) j N ≡ afterStep left (drop (lineWidth * suc n) b) j (stepLine (lineAt b n) j N)
+  unfolding readLines lineAt
+  read-line left n j N =
+      let after : drop lineWidth (drop (lineWidth * n) b) ≡ drop (lineWidth * suc n) b = drop-drop lineWidth (lineWidth * n) b ∙ rw mul-suc in
+      ap (λ (l : List ℕ). afterStep left l j (stepLine (lineAt b n) j N)) after
+
+  concluded : (N : Net) (o : Option Answer) → conclude N o ≡ elim o [ none ↦ accepted N | some a ↦ refused a ]
+  unfolding conclude
+  concluded N none = refl
+  concluded N (some a) = refl
+
+  edge-adds : (k : ℕ) (v : Line)
+      → addLine (withEdge k) (vertexCount + k) v ≡ cond (edgeLineOk (netOf b) v) (next (withEdges (netOf b) (set (placed mostEdges k edge noEdge) k (edgeOf v)))) (stop 16)
+  unfolding addLine edgeLineOk edgeOk symbolOk isStorage hasRole vertexAt netOf
+  edge-adds k v =
+      let place : vertexCount + k - vertexCount ≡ k = omega arith in
+      rw (le-ltb (vertexCount + k) vertexCount (omega arith), place)
+
+  vertex-adds : (k : ℕ) → k < vertexCount → (v : Line)
+      → addLine (withVertex k) k v ≡ cond (vertexLineOk (netOf b) k v) (next (withVertices (withVertex k) (set (placed mostVertices k vertex noVertex) k (vertexOf v)))) (stop 15)
+  unfolding addLine vertexLineOk vertexOk netOf
+  vertex-adds k h v = rw (lt-ltb k vertexCount h)
+
+  module _ (counts : Counts vertexCount edgeCount ((header b) .fourth)) where
+    edges-by-rows : (m k : ℕ) → k + m ≡ edgeCount
+        → readLines m (drop (lineWidth * (1 + vertexCount + k)) b) (vertexCount + k) (withEdge k) ≡ readBy (inTurn m k (edgeRows b) ++ graphRows (netOf b)) (netOf b)
+    unfolding readLines inTurn byRows netOf edgeRows
+    edges-by-rows zero k h =
+        let all : k ≡ edgeCount = omega arith in
+        ap (λ (n : ℕ). conclude (withEdge n) (firstRow (graphRows (withEdge n)))) all ∙ concluded (netOf b) (firstRow (graphRows (netOf b)))
+    edges-by-rows (suc m) k h =
+        read-line m (1 + vertexCount + k) (vertexCount + k) (withEdge k)
+        ∙ line-by-rows m (drop (lineWidth * suc (1 + vertexCount + k)) b) (vertexCount + k) (suc (1 + vertexCount + k)) 16 (omega arith)
+        (withEdge k) (netOf b) (inTurn m (suc k) (edgeRows b) ++ graphRows (netOf b)) (edgeLineOk (netOf b))
+        (λ v. withEdges (netOf b) (set (placed mostEdges k edge noEdge) k (edgeOf v))) (edge-adds k) (lineAt b (1 + vertexCount + k))
+        (λ _.
+        rw (placed-more mostEdges edge noEdge k (omega (arith, counts .edges)))
+        (rw (add-suc (1 + vertexCount) k, add-suc vertexCount k) at (edges-by-rows m (suc k) (omega arith))))
+
+    vertices-by-rows : (m k : ℕ) → k + m ≡ vertexCount
+        → readLines (m + edgeCount) (drop (lineWidth * (1 + k)) b) k (withVertex k)
+        ≡ readBy (inTurn m k (vertexRows b) ++ (inTurn edgeCount 0 (edgeRows b) ++ graphRows (netOf b))) (netOf b)
+    unfolding inTurn byRows netOf vertexRows
+    vertices-by-rows zero k h =
+        let all : k ≡ vertexCount = omega arith in
+        ap (λ (n : ℕ). readLines (0 + edgeCount) (drop (lineWidth * (1 + n)) b) n (withVertex n)) all
+        ∙ rw (zero-add edgeCount) (rw (add-zero (1 + vertexCount), add-zero vertexCount) at (edges-by-rows edgeCount 0 (zero-add edgeCount)))
+    vertices-by-rows (suc m) k h =
+        rw (suc-add m edgeCount)
+        (read-line (m + edgeCount) (1 + k) k (withVertex k)
+        ∙ line-by-rows (m + edgeCount) (drop (lineWidth * suc (1 + k)) b) k (suc (1 + k)) 15 (omega arith)
+        (withVertex k) (netOf b) (inTurn m (suc k) (vertexRows b) ++ (inTurn edgeCount 0 (edgeRows b) ++ graphRows (netOf b))) (vertexLineOk (netOf b) k)
+        (λ v. withVertices (withVertex k) (set (placed mostVertices k vertex noVertex) k (vertexOf v))) (vertex-adds k (omega arith)) (lineAt b (1 + k))
+        (λ _.
+        rw (placed-more mostVertices vertex noVertex k (omega (arith, counts .vertices)))
+        (rw (add-suc 1 k) at (vertices-by-rows m (suc k) (omega arith)))))
+
+-- ---- the header, and the whole sheet
+
+module _ (b : List ℕ) (rs : List Row) (N : Net) where
+  -- the rows after those of the header's own line
+  abbrev counted : Line → List Row
+  counted h = row 14 (when (not (eqb (length b / lineWidth) (1 + h .second + h .third)))) ∷ rs
+
+  header-by-rows : (o : Option Line)
+      → (headerOk (numbersOf o) ≡ true
+      → readLines ((numbersOf o) .second + (numbersOf o) .third) (drop lineWidth b) 0 (startNet ((numbersOf o) .second) ((numbersOf o) .third) ((numbersOf o) .fourth))
+      ≡ readBy rs N)
+      → readHeader b o
+      ≡ readBy (row 12 (whenAt 1 (isMissing o)) ∷ row 13 (whenAt 1 (not (headerOk (numbersOf o)))) ∷ counted (numbersOf o)) N
+  unfolding readHeader byRows firstRow
+  header-by-rows none after = refl
+  header-by-rows (some h) after =
+      by-rows-tested (counted h) (accepted N) refused (headerOk h) 13 1
+      (λ ok. by-rows-tested rs (accepted N) refused (eqb (length b / lineWidth) (1 + h .second + h .third)) 14 0 (λ _. after ok))
+
+-- before the first line below the header nothing is in use
+start-unused : (b : List ℕ) → startNet (vertexCount b) (edgeCount b) ((header b) .fourth) ≡ withVertex b 0
+unfolding startNet netOf
+start-unused b =
+    ap₂ (λ (xs : List Vertex) (es : List Edge). withEdges (withVertices (netOf b) xs) es)
+    (placed-none mostVertices (vertex b) noVertex) (placed-none mostEdges (edge b) noEdge)
+
+module _ (b : List ℕ) where
+  abbrev body : List Row
+  body = inTurn (vertexCount b) 0 (vertexRows b) ++ (inTurn (edgeCount b) 0 (edgeRows b) ++ graphRows (netOf b))
+
+  body-by-rows : headerOk (header b) ≡ true
+      → readLines (vertexCount b + edgeCount b) (drop lineWidth b) 0 (startNet (vertexCount b) (edgeCount b) ((header b) .fourth)) ≡ readBy body (netOf b)
+  body-by-rows ok =
+      ap (readLines (vertexCount b + edgeCount b) (drop lineWidth b) 0) (start-unused b)
+      ∙ vertices-by-rows b (header-counts (header b) ok) (vertexCount b) 0 (zero-add (vertexCount b))
+
+  pub read-by-rows : readSheet b ≡ byRows (sheetRows b) (accepted (netOf b)) refused
+  unfolding readSheet sheetRows lineAt
+  read-by-rows =
+      by-rows-tested (row 12 (whenAt 1 (isMissing (lineAt b 0))) ∷ row 13 (whenAt 1 (not (headerOk (header b)))) ∷ counted b body (netOf b) (header b))
+      (accepted (netOf b)) refused (sizeOk (length b)) 11 0
+      (λ _. header-by-rows b body (netOf b) (lineAt b 0) body-by-rows)
+
+  -- ---- what a sheet is answered
+
+  turn-positive : (m i : ℕ) (f : ℕ → List Row) → ((k : ℕ) → positive (f k) ≡ true) → positive (inTurn m i f) ≡ true
+  unfolding inTurn positive
+  turn-positive zero i f h = refl
+  turn-positive (suc m) i f h = positive-append (f i) (inTurn m (suc i) f) (h i) (turn-positive m (suc i) f h)
+
+  pub sheet-positive : positive (sheetRows b) ≡ true
+  unfolding sheetRows positive vertexRows edgeRows graphRows
+  sheet-positive =
+      positive-append (inTurn (vertexCount b) 0 (vertexRows b)) _ (turn-positive (vertexCount b) 0 (vertexRows b) (λ _. refl))
+      (positive-append (inTurn (edgeCount b) 0 (edgeRows b)) (graphRows (netOf b)) (turn-positive (edgeCount b) 0 (edgeRows b) (λ _. refl)) refl)
+
+  answers : (readSheet b) .answer ≡ answered (firstRow (sheetRows b))
+  answers = ap (λ (r : Reading). r .answer) read-by-rows ∙ by-rows-answer (sheetRows b) (accepted (netOf b)) refused (λ r. r .answer) refl (λ a. refl)
+
+  pub sheet-zero : ((readSheet b) .answer .number ≡ 0) ↔ NoRow (sheetRows b)
+  sheet-zero = rw answers (answered-zero (sheetRows b) sheet-positive)
+
+  pub sheet-number : (n p : ℕ) → 1 ≤ n → ((readSheet b) .answer ≡ answer n p) ↔ First (sheetRows b) n p
+  sheet-number n p l = rw answers (answered-some (sheetRows b) n p l)
+
+  -- a refusal has the empty record
+  pub sheet-refused : (n p : ℕ) → First (sheetRows b) n p → readSheet b ≡ refused (answer n p)
+  sheet-refused n p f = read-by-rows ∙ by-rows-some (sheetRows b) _ _ (answer n p) (first-some (sheetRows b) n p .1 f)
+
+  pub sheet-accepted : NoRow (sheetRows b) → readSheet b ≡ accepted (netOf b)
+  sheet-accepted f = read-by-rows ∙ by-rows-none (sheetRows b) _ _ (first-none (sheetRows b) .1 f)
+
+  -- what a call that reads a sheet first gives: by the sheet's rows, and where none holds by the net
+  pub read-then : {A : Type 0} (good : Net → A) (bad : Answer → A)
+      → cond (eqb ((readSheet b) .answer .number) 0) (good ((readSheet b) .net)) (bad ((readSheet b) .answer)) ≡ byRows (sheetRows b) (good (netOf b)) bad
+  read-then good bad = go (rows-answer (sheetRows b)) refl
+    where
+      go : {o : Option Answer} → RowsAnswer (sheetRows b) o → firstRow (sheetRows b) ≡ o
+          → cond (eqb ((readSheet b) .answer .number) 0) (good ((readSheet b) .net)) (bad ((readSheet b) .answer)) ≡ byRows (sheetRows b) (good (netOf b)) bad
+      go (nothing f) e = rw (sheet-accepted f, by-rows-none (sheetRows b) (good (netOf b)) bad e)
+      go (found {n = n} {p = p} f) e =
+          rw (sheet-refused n p f, ne-eqb n 0 (omega (arith, positive-first sheet-positive f)), by-rows-some (sheetRows b) (good (netOf b)) bad (answer n p) e)

@@ -1,0 +1,79 @@
+-- Which number a sheet gets, and where: document 01's rows for a sheet, each a condition on its bytes. `readSheet` answers by them (`read-by-rows`).
+use Prim.Native.Nat.{ℕ, zero, suc, _+_, _*_, _/_}
+use mathlib.Core.Bool.{Bool, true, false, not, cond}
+use mathlib.Core.List.{List, [], _∷_, _++_}
+use mathlib.Core.Option.{Option, none, some}
+use lib.Dec.{eqb, ltb}
+use lib.ListN.{length, take, drop}
+use Rattle.ternary.specs.Lists.{table}
+use Rattle.net.specs.declared.Net.{Net}
+use Rattle.net.specs.Limits.{mostVertices, mostEdges}
+use Rattle.net.specs.Graph.{noVertex, noEdge}
+use Rattle.sheet.specs.declared.Line.{Line}
+use Rattle.sheet.specs.Limits.{lineWidth}
+use Rattle.sheet.specs.Line.{line, readLine}
+use Rattle.sheet.specs.Rows.{Row, row, when, whenAt}
+use Rattle.sheet.specs.Rules.{headerOk}
+use Rattle.sheet.specs.Graph.{graphRows}
+use Rattle.sheet.specs.Reading.{vertexOf, edgeOf, vertexLineOk, edgeLineOk, sizeOk}
+
+-- line n of a sheet, the header being line 0: its five numbers, or none where it is not five fields
+unfoldable pub lineAt : List ℕ → ℕ → Option Line
+lineAt b n = readLine (take lineWidth (drop (lineWidth * n) b))
+
+abbrev pub isMissing : Option Line → Bool
+isMissing none = true
+isMissing (some v) = false
+
+-- the numbers of a line; zeros where it is not five fields, which its row 12 tells
+abbrev pub numbersOf : Option Line → Line
+numbersOf none = line 0 0 0 0 0
+numbersOf (some v) = v
+
+-- n places, of which the first k are in use and have f 0 to f (k - 1)
+unfoldable pub placed : {A : Type 0} → ℕ → ℕ → (ℕ → A) → A → List A
+placed n k f unused = table n (λ i. cond (ltb i k) (f i) unused)
+
+-- the rows of thing i and of those after it, so many in turn
+unfoldable pub inTurn : ℕ → ℕ → (ℕ → List Row) → List Row
+inTurn zero i f = []
+inTurn (suc m) i f = f i ++ inTurn m (suc i) f
+
+module _ (b : List ℕ) where
+  abbrev pub header : Line
+  header = numbersOf (lineAt b 0)
+
+  -- the record that the lines of a sheet give, be they allowed or not
+  unfoldable pub netOf : Net
+  netOf =
+      record {
+        vertices = placed mostVertices (header .second) (λ j. vertexOf (numbersOf (lineAt b (1 + j)))) noVertex;
+        edges = placed mostEdges (header .third) (λ i. edgeOf (numbersOf (lineAt b (1 + header .second + i)))) noEdge;
+        «vertex_count» = header .second;
+        «edge_count» = header .third;
+        «letter_count» = header .fourth;
+      }
+
+  -- line n is not five fields; its place is the line's number, counted from 1
+  abbrev pub fieldsRow : ℕ → Row
+  fieldsRow n = row 12 (whenAt (suc n) (isMissing (lineAt b n)))
+
+  -- the line of vertex j, from 0, and that of edge i, from 0: its fields, then its values
+  unfoldable pub vertexRows : ℕ → List Row
+  vertexRows j =
+      let n = 1 + j in
+      fieldsRow n ∷ row 15 (whenAt (suc n) (not (vertexLineOk netOf j (numbersOf (lineAt b n))))) ∷ []
+
+  unfoldable pub edgeRows : ℕ → List Row
+  edgeRows i =
+      let n = 1 + header .second + i in
+      fieldsRow n ∷ row 16 (whenAt (suc n) (not (edgeLineOk netOf (numbersOf (lineAt b n))))) ∷ []
+
+  -- its length; line 1; the number of lines; each later line in turn; the graph
+  unfoldable pub sheetRows : List Row
+  sheetRows =
+      row 11 (when (not (sizeOk (length b))))
+      ∷ fieldsRow 0
+      ∷ row 13 (whenAt 1 (not (headerOk header)))
+      ∷ row 14 (when (not (eqb (length b / lineWidth) (1 + header .second + header .third))))
+      ∷ (inTurn (header .second) 0 vertexRows ++ (inTurn (header .third) 0 edgeRows ++ graphRows netOf))
