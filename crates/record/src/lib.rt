@@ -2,11 +2,11 @@
 //! Types, definitions and laws are those of the crate `sheet`.
 
 ghost use mathlib.Core.Path.{_≡_};
-ghost use Prim.Native.Nat.{_≤_};
-ghost use lib.ListN.{take, drop};
+ghost use Prim.Native.Nat.{_<_};
+ghost use Rattle.ternary.specs.Lists.{allBelow};
 ghost use Rattle.net.specs.Limits.{mostVertices, mostEdges};
-ghost use Rattle.sheet.specs.Rules.{vertexOk, edgeOk};
-ghost use Rattle.sheet.specs.Valid.{allOf, isNoVertex, isNoEdge, valid};
+ghost use Rattle.sheet.specs.Valid.{isNoVertex, isNoEdge, valid};
+ghost use Rattle.sheet.specs.Fitting.{vertexFits, edgeFits};
 use net::Edge;
 use net::Net;
 use net::Vertex;
@@ -35,64 +35,48 @@ fn is_no_edge(e: Edge) -> bool
     e.symbol == 0
 }
 
-// Are the vertex places beyond those in use zero?
-fn spare_vertices_zero(net: Net) -> bool
-    requires { ⌜ net .«vertex_count» ≤ mostVertices ⌝ }
-    ensures { λ r. ⌜ r ≡ allOf isNoVertex (drop (net .«vertex_count») (net .vertices)) ⌝ }
+// Is vertex place i as it must be: allowed values where it is in use, else zero?
+fn vertex_fits(net: Net, i: usize) -> bool
+    requires { ⌜ i < mostVertices ⌝ }
+    ensures { λ r. ⌜ r ≡ vertexFits net i ⌝ }
 {
-    let mut i = net.vertex_count as usize;
-    while i < Net::MOST_VERTICES {
-        if !is_no_vertex(net.vertices[i]) {
+    let x = net.vertices[i];
+    if i < net.vertex_count as usize {
+        return rules::vertex_ok(net, x);
+    }
+    is_no_vertex(x)
+}
+
+fn vertices_fit(net: Net) -> bool
+    ensures { λ r. ⌜ r ≡ allBelow mostVertices (vertexFits net) ⌝ }
+{
+    for i in 0..Net::MOST_VERTICES {
+        if !vertex_fits(net, i) {
             return false;
         }
-        i += 1;
     }
     true
 }
 
-// Are the edge places beyond those in use zero?
-fn spare_edges_zero(net: Net) -> bool
-    requires { ⌜ net .«edge_count» ≤ mostEdges ⌝ }
-    ensures { λ r. ⌜ r ≡ allOf isNoEdge (drop (net .«edge_count») (net .edges)) ⌝ }
+// The same of edge place i.
+fn edge_fits(net: Net, i: usize) -> bool
+    requires { ⌜ i < mostEdges ⌝ }
+    ensures { λ r. ⌜ r ≡ edgeFits net i ⌝ }
 {
-    let mut i = net.edge_count as usize;
-    while i < Net::MOST_EDGES {
-        if !is_no_edge(net.edges[i]) {
-            return false;
-        }
-        i += 1;
+    let e = net.edges[i];
+    if i < net.edge_count as usize {
+        return rules::edge_ok(net, e);
     }
-    true
+    is_no_edge(e)
 }
 
-// Are the values of every vertex in use allowed?
-fn vertices_ok(net: Net) -> bool
-    requires { ⌜ net .«vertex_count» ≤ mostVertices ⌝ }
-    ensures { λ r. ⌜ r ≡ allOf (vertexOk net) (take (net .«vertex_count») (net .vertices)) ⌝ }
+fn edges_fit(net: Net) -> bool
+    ensures { λ r. ⌜ r ≡ allBelow mostEdges (edgeFits net) ⌝ }
 {
-    let count = net.vertex_count as usize;
-    let mut i: usize = 0;
-    while i < count {
-        if !rules::vertex_ok(net, net.vertices[i]) {
+    for i in 0..Net::MOST_EDGES {
+        if !edge_fits(net, i) {
             return false;
         }
-        i += 1;
-    }
-    true
-}
-
-// Are the values of every edge in use allowed?
-fn edges_ok(net: Net) -> bool
-    requires { ⌜ net .«edge_count» ≤ mostEdges ⌝ }
-    ensures { λ r. ⌜ r ≡ allOf (edgeOk net) (take (net .«edge_count») (net .edges)) ⌝ }
-{
-    let count = net.edge_count as usize;
-    let mut i: usize = 0;
-    while i < count {
-        if !rules::edge_ok(net, net.edges[i]) {
-            return false;
-        }
-        i += 1;
     }
     true
 }
@@ -108,16 +92,10 @@ pub fn is_record(net: Net) -> bool
     ) {
         return false;
     }
-    if !vertices_ok(net) {
+    if !vertices_fit(net) {
         return false;
     }
-    if !spare_vertices_zero(net) {
-        return false;
-    }
-    if !edges_ok(net) {
-        return false;
-    }
-    if !spare_edges_zero(net) {
+    if !edges_fit(net) {
         return false;
     }
     graph_rows::graph_answer(net).number == 0

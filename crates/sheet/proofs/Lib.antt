@@ -11,7 +11,7 @@ pub mod Places
 pub mod GraphLaws
 pub mod KeyFlagLaws
 pub mod OverSignalLaws
-pub mod AllLaws
+pub mod FittingLaws
 pub mod Validity
 pub mod WriteLaws
 pub mod LineInversion

@@ -53,7 +53,12 @@ module _ {A : Type 0} (p : A → Bool) where
   all-replicate z h zero = refl
   all-replicate z h (suc n) = both h (all-replicate z h n)
 
-  all-getD : (l : List A) (d : A) (i : ℕ) → allOf p l ≡ true → i < length l → p (getD l i d) ≡ true
+  pub all-listed : (l : List A) (d : A) → ((i : ℕ) → i < length l → p (getD l i d) ≡ true) → allOf p l ≡ true
+  unfolding allOf
+  all-listed [] d h = refl
+  all-listed (x ∷ xs) d h = both (h zero (omega arith)) (all-listed xs d (λ i l. h (suc i) (omega arith)))
+
+  pub all-getD : (l : List A) (d : A) (i : ℕ) → allOf p l ≡ true → i < length l → p (getD l i d) ≡ true
   unfolding allOf
   all-getD [] d i h l = absurd (not-suc-le-zero l)
   all-getD (x ∷ xs) d zero h l = search ands

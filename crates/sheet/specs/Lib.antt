@@ -12,5 +12,6 @@ pub mod Reading
 pub mod SheetRows
 pub mod Writing
 pub mod Valid
+pub mod Fitting
 pub mod Job
 pub mod Text
