@@ -12,8 +12,10 @@ use Rattle.ternary.specs.Lists.{allBelow}
 use Rattle.ternary.proofs.ListLaws.{all-at, all-of}
 use Rattle.ternary.proofs.Tests.{ands, both, by-test, same-test}
 use Rattle.sheet.specs.Valid.{allOf}
+use Rattle.sheet.specs.SheetRows.{placed}
 use Rattle.sheet.specs.Fitting.{fits}
 use Rattle.sheet.proofs.Places.{all-getD, all-listed, all-taken}
+use Rattle.sheet.proofs.PlacedLaws.{length-placed, placed-at}
 
 module _ {A : Type 0} (p q : A → Bool) (z : A) (n count : ℕ) (l : List A) (size : length l ≡ n) (few : count ≤ n) where
   in-use : allBelow n (fits p q count l z) ≡ true → allOf p (take count l) ≡ true
@@ -43,3 +45,12 @@ module _ {A : Type 0} (p q : A → Bool) (z : A) (n count : ℕ) (l : List A) (s
 
   pub all-fit : allBelow n (fits p q count l z) ≡ (allOf p (take count l) && allOf q (drop count l))
   all-fit = same-test _ _ (λ t. both (in-use t) (unused t)) (λ t. fitting (search ands) (search ands))
+
+-- places of which those in use are allowed
+pub placed-fit : {A : Type 0} (p q : A → Bool) (z : A) (n count : ℕ) (f : ℕ → A) → count ≤ n → ((i : ℕ) → i < count → p (f i) ≡ true) → q z ≡ true
+    → (allOf p (take count (placed n count f z)) && allOf q (drop count (placed n count f z))) ≡ true
+placed-fit p q z n count f few allowed unused =
+    sym (all-fit p q z n count (placed n count f z) (length-placed n f z count) few)
+    ∙ all-of _ n (λ i h. by-test (ltb i count)
+    (λ low. rw (placed-at n f z count i h, low) (allowed i (ltb-true i count low)))
+    (λ high. rw (placed-at n f z count i h, high) unused))

@@ -14,8 +14,6 @@ pub mod OverSignalLaws
 pub mod FittingLaws
 pub mod Validity
 pub mod WriteLaws
-pub mod LineInversion
-pub mod BodyInversion
 pub mod BodySteps
 pub mod ReadLaws
 pub mod CheckedLaws

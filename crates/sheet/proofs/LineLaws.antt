@@ -59,7 +59,7 @@ module _ (w : ℕ) (b : List ℕ) where
   abbrev piece : ℕ → List ℕ
   piece i = take w (drop (w * i) b)
 
-  piece-rest : (i : ℕ) → piece i ++ drop (w * suc i) b ≡ drop (w * i) b
+  pub piece-rest : (i : ℕ) → piece i ++ drop (w * suc i) b ≡ drop (w * i) b
   piece-rest i = rw (mul-suc, ← (drop-drop w (w * i) b)) (take-append-drop w (drop (w * i) b))
 
   pieces : piece 0 ++ piece 1 ++ piece 2 ++ piece 3 ++ piece 4 ++ drop (w * fieldCount) b ≡ b
@@ -150,10 +150,3 @@ module _ (b : List ℕ) (n : ℕ) where
   pub line-empty : (¬ FullLine b n) → sheetLine b n ≡ []
   unfolding sheetLine
   line-empty f = rw (no-line f)
-
-  pub line-length-iff : (length (sheetLine b n) ≡ lineWidth) ↔ FullLine b n
-  unfolding sheetLine
-  line-length-iff = (
-    cond-by (λ (l : List ℕ). length l ≡ lineWidth → FullLine b n) (hasLine b n) (λ t _. has-line-iff .0 t) (λ _ e. absurd (omega arith)),
-    line-length,
-  )

@@ -1,38 +1,39 @@
 -- Every sheet is accepted, or refused with the empty record, a number of document 01's table for sheets, and a place that this number can have.
-use Prim.Native.Nat.{ℕ, zero, suc, _+_, _/_, _≤_}
+use Prim.Native.Nat.{ℕ, zero, suc, _+_, _/_, _≤_, _<_}
+use native.Mathlib.Nat.{zero-add, add-zero, add-suc, suc-add}
 use native.Mathlib.Omega.{arith}
-use mathlib.Core.Path.{_≡_, refl}
-use mathlib.Core.Bool.{true}
-use mathlib.Core.List.{List}
-use mathlib.Core.Option.{Option, none, some}
+use mathlib.Core.Path.{_≡_, refl, sym, ap, subst, _∙_}
+use mathlib.Core.Logic.{_⊎_, inl, inr}
+use mathlib.Core.Bool.{Bool, true, not}
+use mathlib.Core.List.{List, [], _∷_, _++_}
+use mathlib.Core.Option.{Option}
 use lib.Dec.{eqb}
-use lib.ListN.{length, take, drop}
+use lib.ListN.{length}
+use borrow.Author.Tests.{not-false}
 use Rattle.net.specs.declared.Net.{Net}
 use Rattle.net.specs.Limits.{mostVertices}
-use Rattle.ternary.proofs.Tests.{cond-by}
 use Rattle.sheet.specs.declared.Answer.{Answer}
 use Rattle.sheet.specs.declared.Reading.{Reading}
 use Rattle.sheet.specs.Limits.{lineWidth, mostLines}
-use Rattle.sheet.specs.declared.Line.{Line}
-use Rattle.sheet.specs.Line.{readLine}
-use Rattle.sheet.specs.Rows.{answer, firstRow, First}
+use Rattle.sheet.specs.Rows.{answer, Row, row, whenAt, First}
 use Rattle.sheet.specs.Rows.First.{here, later}
-use Rattle.sheet.specs.Record.{startNet, refused, accepted}
-use Rattle.sheet.specs.Rules.{headerOk}
+use Rattle.sheet.specs.Record.{refused, accepted}
 use Rattle.sheet.specs.Graph.{graphRows}
-use Rattle.sheet.specs.Reading.{Step, conclude, readLines, sizeOk, readHeader, readSheet}
+use Rattle.sheet.specs.Rules.{headerOk}
+use Rattle.sheet.specs.Reading.{vertexLineOk, edgeLineOk, sizeOk, readSheet}
+use Rattle.sheet.specs.SheetRows.{lineAt, isMissing, numbersOf, inTurn, header, netOf, vertexRows, edgeRows, sheetRows}
 use Rattle.sheet.specs.Valid.{valid}
-use Rattle.sheet.proofs.RowLaws.{RowsAnswer, nothing, found, rows-answer}
+use Rattle.sheet.proofs.RowLaws.{RowsAnswer, nothing, found, rows-answer, first-append, not-held, held-at}
 use Rattle.sheet.proofs.RuleLaws.{Counts, header-counts}
 use Rattle.sheet.proofs.GraphLaws.{partner-some, key-vertex, signal-vertex}
-use Rattle.sheet.proofs.LineInversion.{Stepped, vertex, edge, not-fields, not-vertex, not-edge, stepped, afterStep}
+use Rattle.sheet.proofs.SheetRowLaws.{sheet-zero, sheet-refused, sheet-accepted}
 use Rattle.sheet.proofs.ReadLaws.{read-valid}
 
 -- the numbers that a sheet can be refused with, each with its places: a line from 1, or a vertex
 pub data Listed : ℕ → ℕ → Type 0 where
   size : Listed 11 0
   fields : (line : ℕ) → 1 ≤ line → line ≤ mostLines → Listed 12 line
-  header : Listed 13 1
+  header-line : Listed 13 1
   lines : Listed 14 0
   vertex-line : (line : ℕ) → 2 ≤ line → line ≤ mostLines → Listed 15 line
   edge-line : (line : ℕ) → 2 ≤ line → line ≤ mostLines → Listed 16 line
@@ -44,70 +45,83 @@ pub data Outcome : Reading → Type 0 where
   accept : (N : Net) → Outcome (accepted N)
   refuse : {number place : ℕ} → Listed number place → Outcome (refused (answer number place))
 
-abbrev Bounded : Net → Type 0
-Bounded N = Counts (N .«vertex_count») (N .«edge_count») (N .«letter_count»)
+-- ---- each row of a sheet is listed
 
-graph-outcome : (N : Net) → Bounded N → Outcome (conclude N (firstRow (graphRows N)))
-unfolding conclude graphRows
-graph-outcome N c = go (rows-answer (graphRows N))
+-- of rows in turn the first that holds is one of some thing's
+turn-first : (m i : ℕ) (f : ℕ → List Row) {n p : ℕ} → First (inTurn m i f) n p → (k : ℕ) × (k < m) × First (f (i + k)) n p
+unfolding inTurn
+turn-first (suc m) i f r = go (λ g. turn-first m (suc i) f g) (first-append (f i) (inTurn m (suc i) f) r)
   where
-    listed : {n p : ℕ} → First (graphRows N) n p → Listed n p
-    listed (here {p = p} h) = let f = partner-some N p .0 h in partner p (omega (arith, f .line)) (omega (arith, f .line, f .below))
-    listed (later _ (here {p = p} h)) = let v = key-vertex N p h in key-nodes p (v .low) (omega arith)
-    listed (later _ (later _ (here {p = p} h))) = let v = signal-vertex N p h in signals p (v .low) (omega arith)
+    go : {n p : ℕ} → (First (inTurn m (suc i) f) n p → (k : ℕ) × (k < m) × First (f (suc i + k)) n p)
+        → First (f i) n p ⊎ First (inTurn m (suc i) f) n p → (k : ℕ) × (k < suc m) × First (f (i + k)) n p
+    go later-ones (inl g) = (0, omega arith, rw (add-zero i) g)
+    go later-ones (inr g) =
+        let w = later-ones g in
+        (suc (w .0), omega (arith, w .1), rw (add-suc i (w .0), ← (suc-add i (w .0))) (w .2))
 
-    go : {o : Option Answer} → RowsAnswer (graphRows N) o → Outcome (conclude N o)
-    go (nothing _) = accept N
-    go (found f) = refuse (listed f)
+-- of a line's two rows
+line-listed : (q m : ℕ) (missing allowed : Bool) → Listed 12 q → Listed m q
+    → {n p : ℕ} → First (row 12 (whenAt q missing) ∷ row m (whenAt q (not allowed)) ∷ []) n p → Listed n p
+line-listed q m missing allowed a c (here e) = subst (Listed 12) (sym (held-at q missing e)) a
+line-listed q m missing allowed a c (later _ (here e)) = subst (Listed m) (sym (held-at q (not allowed) e)) c
 
--- line j of those below the header has the number j + 2, and they end at line 1 + V + E
-lines-outcome : (left : ℕ) (rest : List ℕ) (j : ℕ) (N : Net) → Bounded N → j + left ≡ N .«vertex_count» + N .«edge_count» → Outcome (readLines left rest j N)
-unfolding readLines
-lines-outcome zero rest j N c h = graph-outcome N c
-lines-outcome (suc left) rest j N c h =
-    go (λ N′ c′ h′. lines-outcome left (drop lineWidth rest) (suc j) N′ c′ h′) (stepped (take lineWidth rest) j N)
-  where
-    go : ((N′ : Net) → Bounded N′ → suc j + left ≡ N′ .«vertex_count» + N′ .«edge_count» → Outcome (readLines left (drop lineWidth rest) (suc j) N′))
-        → {s : Step} → Stepped (take lineWidth rest) j N s → Outcome (afterStep left (drop lineWidth rest) j s)
-    go ih (vertex _ _ _ _) = ih _ c (omega arith)
-    go ih (edge _ _ _ _) = ih _ c (omega arith)
-    go ih not-fields = refuse (fields (j + 2) (omega arith) (omega arith))
-    go ih not-vertex = refuse (vertex-line (j + 2) (omega arith) (omega arith))
-    go ih not-edge = refuse (edge-line (j + 2) (omega arith) (omega arith))
+module _ (b : List ℕ) where
+  module _ (c : Counts ((header b) .second) ((header b) .third) ((header b) .fourth)) where
+    vertex-listed : (j : ℕ) → j < (header b) .second → {n p : ℕ} → First (vertexRows b j) n p → Listed n p
+    unfolding vertexRows
+    vertex-listed j h f =
+        let few = c .vertices in
+        line-listed (suc (1 + j)) 15 (isMissing (lineAt b (1 + j))) (vertexLineOk (netOf b) j (numbersOf (lineAt b (1 + j))))
+        (fields _ (omega arith) (omega arith)) (vertex-line _ (omega arith) (omega arith)) f
 
-header-outcome : (b : List ℕ) (o : Option Line) → Outcome (readHeader b o)
-unfolding readHeader startNet
-header-outcome b none = refuse (fields 1 (omega arith) (omega arith))
-header-outcome b (some h) =
-    cond-by Outcome (headerOk h)
-    (λ ok. cond-by Outcome (eqb (length b / lineWidth) (1 + h .second + h .third))
-    (λ _. lines-outcome (h .second + h .third) (drop lineWidth b) 0 (startNet (h .second) (h .third) (h .fourth)) (header-counts h ok) (omega arith))
-    (λ _. refuse lines))
-    (λ _. refuse header)
+    edge-listed : (i : ℕ) → i < (header b) .third → {n p : ℕ} → First (edgeRows b i) n p → Listed n p
+    unfolding edgeRows
+    edge-listed i h f =
+        let few = c .vertices in
+        let few-edges = c .edges in
+        let n = 1 + (header b) .second + i in
+        line-listed (suc n) 16 (isMissing (lineAt b n)) (edgeLineOk (netOf b) (numbersOf (lineAt b n)))
+        (fields _ (omega arith) (omega arith)) (edge-line _ (omega arith) (omega arith)) f
 
-pub outcome : (b : List ℕ) → Outcome (readSheet b)
-unfolding readSheet
-outcome b = cond-by Outcome (sizeOk (length b)) (λ _. header-outcome b (readLine (take lineWidth b))) (λ _. refuse size)
+    graph-listed : {n p : ℕ} → First (graphRows (netOf b)) n p → Listed n p
+    unfolding graphRows netOf
+    graph-listed (here {p = p} h) =
+        let f = partner-some (netOf b) p .0 h in
+        partner p (omega (arith, f .line)) (omega (arith, f .line, f .below, c .vertices, c .edges))
+    graph-listed (later _ (here {p = p} h)) = let v = key-vertex (netOf b) p h in key-nodes p (v .low) (omega (arith, v .high, c .vertices))
+    graph-listed (later _ (later _ (here {p = p} h))) = let v = signal-vertex (netOf b) p h in signals p (v .low) (omega (arith, v .high, c .vertices))
 
--- ---- number 0 is for the accepted sheets
+    body-listed : {n p : ℕ} → First (inTurn ((header b) .second) 0 (vertexRows b) ++ (inTurn ((header b) .third) 0 (edgeRows b) ++ graphRows (netOf b))) n p → Listed n p
+    body-listed f = go (first-append (inTurn ((header b) .second) 0 (vertexRows b)) _ f)
+      where
+        later-listed : {n p : ℕ} → First (inTurn ((header b) .third) 0 (edgeRows b)) n p ⊎ First (graphRows (netOf b)) n p → Listed n p
+        later-listed (inl g) = let w = turn-first ((header b) .third) 0 (edgeRows b) g in edge-listed (w .0) (w .1) (rw (zero-add (w .0)) at (w .2))
+        later-listed (inr g) = graph-listed g
 
-listed-number : {n p : ℕ} → Listed n p → 11 ≤ n
-listed-number size = omega arith
-listed-number (fields _ _ _) = omega arith
-listed-number header = omega arith
-listed-number lines = omega arith
-listed-number (vertex-line _ _ _) = omega arith
-listed-number (edge-line _ _ _) = omega arith
-listed-number (partner _ _ _) = omega arith
-listed-number (key-nodes _ _ _) = omega arith
-listed-number (signals _ _ _) = omega arith
+        go : {n p : ℕ} → First (inTurn ((header b) .second) 0 (vertexRows b)) n p ⊎ First (inTurn ((header b) .third) 0 (edgeRows b) ++ graphRows (netOf b)) n p → Listed n p
+        go (inl g) = let w = turn-first ((header b) .second) 0 (vertexRows b) g in vertex-listed (w .0) (w .1) (rw (zero-add (w .0)) at (w .2))
+        go (inr g) = later-listed (first-append (inTurn ((header b) .third) 0 (edgeRows b)) (graphRows (netOf b)) g)
 
-pub accepted-at-zero : (b : List ℕ) → (readSheet b) .answer .number ≡ 0 → readSheet b ≡ accepted ((readSheet b) .net)
-accepted-at-zero b = go (outcome b)
-  where
-    go : {r : Reading} → Outcome r → r .answer .number ≡ 0 → r ≡ accepted (r .net)
-    go (accept N) e = refl
-    go (refuse l) e = absurd (omega (arith, listed-number l))
+  listed : {n p : ℕ} → First (sheetRows b) n p → Listed n p
+  unfolding sheetRows
+  listed (here e) = subst (Listed 11) (sym (held-at 0 (not (sizeOk (length b))) e)) size
+  listed (later _ (here e)) = subst (Listed 12) (sym (held-at 1 (isMissing (lineAt b 0)) e)) (fields 1 (omega arith) (omega arith))
+  listed (later _ (later _ (here e))) = subst (Listed 13) (sym (held-at 1 (not (headerOk (header b))) e)) header-line
+  listed (later _ (later _ (later _ (here e)))) = subst (Listed 14) (sym (held-at 0 (not (eqb (length b / lineWidth) (1 + (header b) .second + (header b) .third))) e)) lines
+  listed (later _ (later _ (later ok (later _ rest)))) =
+      body-listed (header-counts (header b) (not-false (headerOk (header b)) (not-held 1 (not (headerOk (header b))) ok))) rest
+
+  pub outcome : Outcome (readSheet b)
+  outcome = go (rows-answer (sheetRows b))
+    where
+      go : {o : Option Answer} → RowsAnswer (sheetRows b) o → Outcome (readSheet b)
+      go (nothing f) = subst Outcome (sym (sheet-accepted b f)) (accept (netOf b))
+      go (found {n = n} {p = p} f) = subst Outcome (sym (sheet-refused b n p f)) (refuse (listed f))
+
+  -- ---- number 0 is for the accepted sheets
+
+  pub accepted-at-zero : (readSheet b) .answer .number ≡ 0 → readSheet b ≡ accepted ((readSheet b) .net)
+  accepted-at-zero e = let a = sheet-accepted b (sheet-zero b .0 e) in a ∙ ap (λ (r : Reading). accepted (r .net)) (sym a)
 
 -- what the reader answers with number 0 is a valid net
 pub valid-at-zero : (b : List ℕ) (r : Reading) → r ≡ readSheet b → r .answer .number ≡ 0 → valid (r .net) ≡ true

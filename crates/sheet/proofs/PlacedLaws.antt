@@ -1,22 +1,23 @@
 -- The places of a record: those in use come first, and storing at the next place puts one more in use.
-use Prim.Native.Nat.{ℕ, suc, _<_}
+use Prim.Native.Nat.{ℕ, suc, _≤_, _<_}
 use native.Mathlib.Omega.{arith}
 use mathlib.Core.Path.{_≡_, sym, ap, subst, _∙_}
 use mathlib.Core.Bool.{Bool, cond}
 use lib.Dec.{eqb, ltb}
-use lib.ListN.{length, set, replicate, getD, length-set, length-replicate, getD-replicate}
-use lib.Seq.{ext-getD, getD-set-same, getD-set-other}
+use lib.ListN.{length, take, set, replicate, getD, length-set, length-replicate, getD-replicate}
+use lib.Seq.{ext-getD, getD-set-same, getD-set-other, getD-take, length-take-le}
 use borrow.Author.Tests.{ltb-true, lt-ltb, le-ltb, eqb-true, eqb-false}
+use Rattle.ternary.specs.Lists.{table}
 use Rattle.ternary.proofs.ListLaws.{length-table, getD-table}
 use Rattle.ternary.proofs.Tests.{by-test, same-test}
 use Rattle.sheet.specs.SheetRows.{placed}
 
 module _ {A : Type 0} (n : ℕ) (f : ℕ → A) (z : A) where
-  length-placed : (k : ℕ) → length (placed n k f z) ≡ n
+  pub length-placed : (k : ℕ) → length (placed n k f z) ≡ n
   unfolding placed
   length-placed k = length-table n _
 
-  placed-at : (k i : ℕ) → i < n → getD (placed n k f z) i z ≡ cond (ltb i k) (f i) z
+  pub placed-at : (k i : ℕ) → i < n → getD (placed n k f z) i z ≡ cond (ltb i k) (f i) z
   unfolding placed
   placed-at k i h = getD-table n _ i z h
 
@@ -45,3 +46,12 @@ module _ {A : Type 0} (n : ℕ) (f : ℕ → A) (z : A) where
           let same : ltb i k ≡ ltb i (suc k) =
           same-test (ltb i k) (ltb i (suc k)) (λ t. lt-ltb i (suc k) (omega (arith, ltb-true i k t))) (λ t. lt-ltb i k (omega (arith, e, ltb-true i (suc k) t))) in
           getD-set-other (placed n k f z) k i (f k) z e ∙ placed-at k i b ∙ ap (λ (t : Bool). cond t (f i) z) same ∙ sym (placed-at (suc k) i b)
+
+  -- those in use, taken out again
+  pub placed-taken : (k : ℕ) → k ≤ n → take k (placed n k f z) ≡ table k f
+  placed-taken k h =
+      let size : length (take k (placed n k f z)) ≡ k = length-take-le k (placed n k f z) (rw (length-placed k) h) in
+      ext-getD z (take k (placed n k f z)) (table k f) (size ∙ sym (length-table k f))
+      (λ i b.
+      let low : i < k = omega (arith, size) in
+      getD-take k (placed n k f z) i z low ∙ placed-at k i (omega arith) ∙ rw (lt-ltb i k low) (sym (getD-table k f i z low)))

@@ -9,7 +9,7 @@ use mathlib.Core.List.{List, [], _∷_, _++_}
 use mathlib.Core.Option.{none, some}
 use lib.Dec.{ltb}
 use lib.ListN.{length, getD, getElem?, take, drop, replicate, length-replicate, length-drop, take-append-drop}
-use lib.Seq.{sets, sets-eq, length-take-le, getD-take, take-at, drop-at}
+use lib.Seq.{sets, sets-eq, length-take-le, getD-take}
 use borrow.Author.Tests.{ltb-true, ltb-false}
 use Rattle.ternary.proofs.Tests.{ands, both, by-test}
 use Rattle.sheet.specs.Valid.{allOf}
@@ -33,25 +33,12 @@ module _ {A : Type 0} (z : A) where
       let rest : drop k l ≡ replicate (n - k) z = zeros ∙ rw (length-drop, len) in
       stored n (take k l) (rw size h) ∙ rw (size, ← rest) (take-append-drop k l)
 
--- the stored list taken out again, and what is left behind it
-module _ {A : Type 0} (z : A) (n k : ℕ) (xs : List A) (size : length xs ≡ k) (fits : k ≤ n) where
-  pub stored-taken : take k (sets (replicate n z) 0 xs) ≡ xs
-  stored-taken = ap (take k) (stored z n xs (omega arith)) ∙ take-at xs _ k size
-
-  pub stored-left : drop k (sets (replicate n z) 0 xs) ≡ replicate (n - length xs) z
-  stored-left = ap (drop k) (stored z n xs (omega arith)) ∙ drop-at xs _ k size
-
 module _ {A : Type 0} (p : A → Bool) where
   -- every element of a list that passes is z, if only z passes
   pub all-same : (z : A) → ((x : A) → p x ≡ true → x ≡ z) → (l : List A) → allOf p l ≡ true → l ≡ replicate (length l) z
   unfolding allOf
   all-same z only [] h = refl
   all-same z only (x ∷ xs) h = rw (only x (search ands), ← (all-same z only xs (search ands)))
-
-  pub all-replicate : (z : A) → p z ≡ true → (n : ℕ) → allOf p (replicate n z) ≡ true
-  unfolding allOf
-  all-replicate z h zero = refl
-  all-replicate z h (suc n) = both h (all-replicate z h n)
 
   pub all-listed : (l : List A) (d : A) → ((i : ℕ) → i < length l → p (getD l i d) ≡ true) → allOf p l ≡ true
   unfolding allOf

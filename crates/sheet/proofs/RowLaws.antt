@@ -2,7 +2,7 @@
 use Prim.Native.Nat.{ℕ, _≤_}
 use native.Mathlib.Omega.{arith}
 use mathlib.Core.Path.{_≡_, refl, sym, ap, subst, _∙_}
-use mathlib.Core.Logic.{_↔_}
+use mathlib.Core.Logic.{_↔_, _⊎_, inl, inr}
 use mathlib.Core.Bool.{Bool, true, false, not, cond, _&&_, true≢false}
 use mathlib.Core.List.{List, [], _∷_, _++_}
 use mathlib.Core.Option.{Option, none, some}
@@ -58,6 +58,20 @@ module _ (rs : List Row) where
       there (found {n = m} {p = q} f) e =
           let is : answer m q ≡ answer n p = cc in
           subst (λ (a : Answer). First rs (a .number) (a .place)) is f
+
+-- of two lists of rows in turn
+pub none-append : (rs ss : List Row) → NoRow (rs ++ ss) → NoRow rs × NoRow ss
+none-append [] ss f = (end, f)
+none-append (r ∷ rs) ss (next h f) = let g = none-append rs ss f in (next h (g .0), g .1)
+
+pub first-append : (rs ss : List Row) {n p : ℕ} → First (rs ++ ss) n p → First rs n p ⊎ First ss n p
+first-append [] ss f = inr f
+first-append (r ∷ rs) ss (here h) = inl (here h)
+first-append (r ∷ rs) ss (later h f) = go (first-append rs ss f)
+  where
+    go : {n p : ℕ} → First rs n p ⊎ First ss n p → First (r ∷ rs) n p ⊎ First ss n p
+    go (inl g) = inl (later h g)
+    go (inr g) = inr g
 
 -- ---- what a call gives by its rows
 
@@ -146,11 +160,18 @@ module _ (rs : List Row) where
       there none h e = absurd (omega (arith, ap (λ (a : Answer). a .number) e))
       there (some a) h e = first-some rs n p .0 (rw e at h)
 
--- ---- a row with place 0, by its condition
+-- ---- a row by its condition
+
+pub not-held : (p : ℕ) (b : Bool) → whenAt p b ≡ none → b ≡ false
+not-held p true e = absurd (true≢false (cc))
+not-held p false e = refl
+
+pub held-at : (q : ℕ) (b : Bool) {p : ℕ} → whenAt q b ≡ some p → p ≡ q
+held-at q true e = cc
+held-at q false e = absurd (true≢false (cc))
 
 pub when-none : (b : Bool) → (when b ≡ none) ↔ (b ≡ false)
-when-none true = (λ e. absurd (true≢false (cc)), λ e. absurd (true≢false e))
-when-none false = (λ _. refl, λ _. refl)
+when-none b = (not-held 0 b, λ e. rw e)
 
 pub when-some : (b : Bool) (p : ℕ) → (when b ≡ some p) ↔ ((b ≡ true) × (p ≡ 0))
 when-some true p = (λ e. (refl, cc), λ h. rw (h .1))

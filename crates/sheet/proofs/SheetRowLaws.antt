@@ -24,17 +24,20 @@ use Rattle.sheet.specs.Rows.{answer, Row, row, when, whenAt, firstRow, b
 use Rattle.sheet.specs.Record.{startNet, refused, accepted}
 use Rattle.sheet.specs.Rules.{headerOk, vertexOk, symbolOk, edgeOk}
 use Rattle.sheet.specs.Graph.{graphRows}
-use Rattle.sheet.specs.Reading.{vertexOf, edgeOf, withVertices, withEdges, vertexLineOk, edgeLineOk, addLine, stepLine, conclude, readLines, sizeOk, readHeader, readSheet}
+use Rattle.sheet.specs.Reading.{Step, vertexOf, edgeOf, withVertices, withEdges, vertexLineOk, edgeLineOk, addLine, stepLine, conclude, readLines, sizeOk, readHeader, readSheet}
 use Rattle.sheet.specs.Reading.Step.{next, stop}
 use Rattle.sheet.specs.SheetRows.{lineAt, isMissing, numbersOf, placed, inTurn, header, netOf, vertexRows, edgeRows, sheetRows}
 use Rattle.sheet.proofs.RowLaws.{RowsAnswer, nothing, found, rows-answer, positive-first, by-rows-none, by-rows-some, by-rows-answer, by-rows-tested, positive, positive-append, first-none, first-some, answered-zero, answered-some}
 use Rattle.sheet.proofs.RuleLaws.{Counts, header-counts}
 use Rattle.sheet.proofs.PlacedLaws.{placed-none, placed-more}
-use Rattle.sheet.proofs.LineInversion.{afterStep}
 
 -- what a reading gives by its rows: the record N where none holds
 abbrev readBy : List Row → Net → Reading
 readBy rows N = byRows rows (accepted N) refused
+
+-- the rest of `readLines` after a step; an `elim` as there, since clauses would not be equal to it by computation
+abbrev afterStep : ℕ → List ℕ → ℕ → Step → Reading
+afterStep left rest j s = elim s [ next N ↦ readLines left rest (suc j) N | stop n ↦ refused (answer n (j + 2)) ]
 
 -- ---- one line: its fields, then its values
 
