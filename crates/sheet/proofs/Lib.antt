@@ -11,10 +11,15 @@ pub mod Places
 pub mod GraphLaws
 pub mod KeyFlagLaws
 pub mod OverSignalLaws
+pub mod PlacedLaws
 pub mod FittingLaws
 pub mod Validity
 pub mod WriteLaws
 pub mod BodySteps
+pub mod TurnLaws
+pub mod SheetRowLaws
+pub mod FitSheets
+pub mod JoinedLines
 pub mod ReadLaws
 pub mod CheckedLaws
 pub mod Progress
@@ -22,8 +27,6 @@ pub mod LoopLaws
 pub mod ReaderSteps
 pub mod HeaderSteps
 pub mod RecordSteps
-pub mod PlacedLaws
-pub mod SheetRowLaws
 pub mod Outcome
 pub mod Known
 pub mod JobLaws

@@ -1,8 +1,7 @@
 -- Every sheet is accepted, or refused with the empty record, a number of document 01's table for sheets, and a place that this number can have.
-use Prim.Native.Nat.{ℕ, zero, suc, _+_, _/_, _≤_, _<_}
-use native.Mathlib.Nat.{zero-add, add-zero, add-suc, suc-add}
+use Prim.Native.Nat.{ℕ, suc, _+_, _/_, _≤_, _<_}
 use native.Mathlib.Omega.{arith}
-use mathlib.Core.Path.{_≡_, refl, sym, ap, subst, _∙_}
+use mathlib.Core.Path.{_≡_, sym, ap, subst, _∙_}
 use mathlib.Core.Logic.{_⊎_, inl, inr}
 use mathlib.Core.Bool.{Bool, true, not}
 use mathlib.Core.List.{List, [], _∷_, _++_}
@@ -15,15 +14,16 @@ use Rattle.net.specs.Limits.{mostVertices}
 use Rattle.sheet.specs.declared.Answer.{Answer}
 use Rattle.sheet.specs.declared.Reading.{Reading}
 use Rattle.sheet.specs.Limits.{lineWidth, mostLines}
-use Rattle.sheet.specs.Rows.{answer, Row, row, whenAt, First}
+use Rattle.sheet.specs.Rows.{answer, row, whenAt, First}
 use Rattle.sheet.specs.Rows.First.{here, later}
 use Rattle.sheet.specs.Record.{refused, accepted}
 use Rattle.sheet.specs.Graph.{graphRows}
 use Rattle.sheet.specs.Rules.{headerOk}
 use Rattle.sheet.specs.Reading.{vertexLineOk, edgeLineOk, sizeOk, readSheet}
-use Rattle.sheet.specs.SheetRows.{lineAt, isMissing, numbersOf, inTurn, header, netOf, vertexRows, edgeRows, sheetRows}
+use Rattle.sheet.specs.SheetRows.{lineAt, isMissing, numbersOf, inTurn, header, vertexCount, edgeCount, netOf, vertexRows, edgeRows, sheetRows}
 use Rattle.sheet.specs.Valid.{valid}
 use Rattle.sheet.proofs.RowLaws.{RowsAnswer, nothing, found, rows-answer, first-append, not-held, held-at}
+use Rattle.sheet.proofs.TurnLaws.{some-turn}
 use Rattle.sheet.proofs.RuleLaws.{Counts, header-counts}
 use Rattle.sheet.proofs.GraphLaws.{partner-some, key-vertex, signal-vertex}
 use Rattle.sheet.proofs.SheetRowLaws.{sheet-zero, sheet-refused, sheet-accepted}
@@ -47,18 +47,6 @@ pub data Outcome : Reading → Type 0 where
 
 -- ---- each row of a sheet is listed
 
--- of rows in turn the first that holds is one of some thing's
-turn-first : (m i : ℕ) (f : ℕ → List Row) {n p : ℕ} → First (inTurn m i f) n p → (k : ℕ) × (k < m) × First (f (i + k)) n p
-unfolding inTurn
-turn-first (suc m) i f r = go (λ g. turn-first m (suc i) f g) (first-append (f i) (inTurn m (suc i) f) r)
-  where
-    go : {n p : ℕ} → (First (inTurn m (suc i) f) n p → (k : ℕ) × (k < m) × First (f (suc i + k)) n p)
-        → First (f i) n p ⊎ First (inTurn m (suc i) f) n p → (k : ℕ) × (k < suc m) × First (f (i + k)) n p
-    go later-ones (inl g) = (0, omega arith, rw (add-zero i) g)
-    go later-ones (inr g) =
-        let w = later-ones g in
-        (suc (w .0), omega (arith, w .1), rw (add-suc i (w .0), ← (suc-add i (w .0))) (w .2))
-
 -- of a line's two rows
 line-listed : (q m : ℕ) (missing allowed : Bool) → Listed 12 q → Listed m q
     → {n p : ℕ} → First (row 12 (whenAt q missing) ∷ row m (whenAt q (not allowed)) ∷ []) n p → Listed n p
@@ -66,20 +54,20 @@ line-listed q m missing allowed a c (here e) = subst (Listed 12) (sym (held-at q
 line-listed q m missing allowed a c (later _ (here e)) = subst (Listed m) (sym (held-at q (not allowed) e)) c
 
 module _ (b : List ℕ) where
-  module _ (c : Counts ((header b) .second) ((header b) .third) ((header b) .fourth)) where
-    vertex-listed : (j : ℕ) → j < (header b) .second → {n p : ℕ} → First (vertexRows b j) n p → Listed n p
+  module _ (c : Counts (vertexCount b) (edgeCount b) ((header b) .fourth)) where
+    vertex-listed : (j : ℕ) → j < vertexCount b → {n p : ℕ} → First (vertexRows b j) n p → Listed n p
     unfolding vertexRows
     vertex-listed j h f =
         let few = c .vertices in
         line-listed (suc (1 + j)) 15 (isMissing (lineAt b (1 + j))) (vertexLineOk (netOf b) j (numbersOf (lineAt b (1 + j))))
         (fields _ (omega arith) (omega arith)) (vertex-line _ (omega arith) (omega arith)) f
 
-    edge-listed : (i : ℕ) → i < (header b) .third → {n p : ℕ} → First (edgeRows b i) n p → Listed n p
+    edge-listed : (i : ℕ) → i < edgeCount b → {n p : ℕ} → First (edgeRows b i) n p → Listed n p
     unfolding edgeRows
     edge-listed i h f =
         let few = c .vertices in
         let few-edges = c .edges in
-        let n = 1 + (header b) .second + i in
+        let n = 1 + vertexCount b + i in
         line-listed (suc n) 16 (isMissing (lineAt b n)) (edgeLineOk (netOf b) (numbersOf (lineAt b n)))
         (fields _ (omega arith) (omega arith)) (edge-line _ (omega arith) (omega arith)) f
 
@@ -91,23 +79,23 @@ module _ (b : List ℕ) where
     graph-listed (later _ (here {p = p} h)) = let v = key-vertex (netOf b) p h in key-nodes p (v .low) (omega (arith, v .high, c .vertices))
     graph-listed (later _ (later _ (here {p = p} h))) = let v = signal-vertex (netOf b) p h in signals p (v .low) (omega (arith, v .high, c .vertices))
 
-    body-listed : {n p : ℕ} → First (inTurn ((header b) .second) 0 (vertexRows b) ++ (inTurn ((header b) .third) 0 (edgeRows b) ++ graphRows (netOf b))) n p → Listed n p
-    body-listed f = go (first-append (inTurn ((header b) .second) 0 (vertexRows b)) _ f)
+    body-listed : {n p : ℕ} → First (inTurn (vertexCount b) 0 (vertexRows b) ++ (inTurn (edgeCount b) 0 (edgeRows b) ++ graphRows (netOf b))) n p → Listed n p
+    body-listed f = go (first-append (inTurn (vertexCount b) 0 (vertexRows b)) _ f)
       where
-        later-listed : {n p : ℕ} → First (inTurn ((header b) .third) 0 (edgeRows b)) n p ⊎ First (graphRows (netOf b)) n p → Listed n p
-        later-listed (inl g) = let w = turn-first ((header b) .third) 0 (edgeRows b) g in edge-listed (w .0) (w .1) (rw (zero-add (w .0)) at (w .2))
+        later-listed : {n p : ℕ} → First (inTurn (edgeCount b) 0 (edgeRows b)) n p ⊎ First (graphRows (netOf b)) n p → Listed n p
+        later-listed (inl g) = let w = some-turn (edgeCount b) (edgeRows b) g in edge-listed (w .0) (w .1) (w .2)
         later-listed (inr g) = graph-listed g
 
-        go : {n p : ℕ} → First (inTurn ((header b) .second) 0 (vertexRows b)) n p ⊎ First (inTurn ((header b) .third) 0 (edgeRows b) ++ graphRows (netOf b)) n p → Listed n p
-        go (inl g) = let w = turn-first ((header b) .second) 0 (vertexRows b) g in vertex-listed (w .0) (w .1) (rw (zero-add (w .0)) at (w .2))
-        go (inr g) = later-listed (first-append (inTurn ((header b) .third) 0 (edgeRows b)) (graphRows (netOf b)) g)
+        go : {n p : ℕ} → First (inTurn (vertexCount b) 0 (vertexRows b)) n p ⊎ First (inTurn (edgeCount b) 0 (edgeRows b) ++ graphRows (netOf b)) n p → Listed n p
+        go (inl g) = let w = some-turn (vertexCount b) (vertexRows b) g in vertex-listed (w .0) (w .1) (w .2)
+        go (inr g) = later-listed (first-append (inTurn (edgeCount b) 0 (edgeRows b)) (graphRows (netOf b)) g)
 
   listed : {n p : ℕ} → First (sheetRows b) n p → Listed n p
   unfolding sheetRows
   listed (here e) = subst (Listed 11) (sym (held-at 0 (not (sizeOk (length b))) e)) size
   listed (later _ (here e)) = subst (Listed 12) (sym (held-at 1 (isMissing (lineAt b 0)) e)) (fields 1 (omega arith) (omega arith))
   listed (later _ (later _ (here e))) = subst (Listed 13) (sym (held-at 1 (not (headerOk (header b))) e)) header-line
-  listed (later _ (later _ (later _ (here e)))) = subst (Listed 14) (sym (held-at 0 (not (eqb (length b / lineWidth) (1 + (header b) .second + (header b) .third))) e)) lines
+  listed (later _ (later _ (later _ (here e)))) = subst (Listed 14) (sym (held-at 0 (not (eqb (length b / lineWidth) (1 + vertexCount b + edgeCount b))) e)) lines
   listed (later _ (later _ (later ok (later _ rest)))) =
       body-listed (header-counts (header b) (not-false (headerOk (header b)) (not-held 1 (not (headerOk (header b))) ok))) rest
 

@@ -26,9 +26,10 @@ use Rattle.sheet.specs.Rules.{headerOk, vertexOk, symbolOk, edgeOk}
 use Rattle.sheet.specs.Graph.{graphRows}
 use Rattle.sheet.specs.Reading.{Step, vertexOf, edgeOf, withVertices, withEdges, vertexLineOk, edgeLineOk, addLine, stepLine, conclude, readLines, sizeOk, readHeader, readSheet}
 use Rattle.sheet.specs.Reading.Step.{next, stop}
-use Rattle.sheet.specs.SheetRows.{lineAt, isMissing, numbersOf, placed, inTurn, header, netOf, vertexRows, edgeRows, sheetRows}
+use Rattle.sheet.specs.SheetRows.{lineAt, isMissing, numbersOf, placed, inTurn, header, vertexCount, edgeCount, vertexFrom, edgeFrom, netOf, vertexRows, edgeRows, sheetRows}
 use Rattle.sheet.proofs.RowLaws.{RowsAnswer, nothing, found, rows-answer, positive-first, by-rows-none, by-rows-some, by-rows-answer, by-rows-tested, positive, positive-append, first-none, first-some, answered-zero, answered-some}
 use Rattle.sheet.proofs.RuleLaws.{Counts, header-counts}
+use Rattle.sheet.proofs.TurnLaws.{turn-positive}
 use Rattle.sheet.proofs.PlacedLaws.{placed-none, placed-more}
 
 -- what a reading gives by its rows: the record N where none holds
@@ -58,25 +59,13 @@ module _ (left : ℕ) (rest : List ℕ) (j p n : ℕ) (line-number : p ≡ j + 2
 -- ---- the lines below the header, with the record so far
 
 module _ (b : List ℕ) where
-  abbrev vertexCount : ℕ
-  vertexCount = (header b) .second
-
-  abbrev edgeCount : ℕ
-  edgeCount = (header b) .third
-
-  abbrev vertex : ℕ → Vertex
-  vertex j = vertexOf (numbersOf (lineAt b (1 + j)))
-
-  abbrev edge : ℕ → Edge
-  edge i = edgeOf (numbersOf (lineAt b (1 + vertexCount + i)))
-
   -- all vertices and k edges are read
   abbrev withEdge : ℕ → Net
-  withEdge k = withEdges (netOf b) (placed mostEdges k edge noEdge)
+  withEdge k = withEdges (netOf b) (placed mostEdges k (edgeFrom b) noEdge)
 
   -- k vertices are read
   abbrev withVertex : ℕ → Net
-  withVertex k = withEdges (withVertices (netOf b) (placed mostVertices k vertex noVertex)) (placed mostEdges 0 edge noEdge)
+  withVertex k = withEdges (withVertices (netOf b) (placed mostVertices k (vertexFrom b) noVertex)) (placed mostEdges 0 (edgeFrom b) noEdge)
 
   -- line n is taken off the front
   read-line : (left n j : ℕ) (N : Net) → readLines (suc left) (drop (lineWidth * n) b) j N ≡ afterStep left (drop (lineWidth * suc n) b) j (stepLine (lineAt b n) j N)
@@ -91,49 +80,49 @@ module _ (b : List ℕ) where
   concluded N (some a) = refl
 
   edge-adds : (k : ℕ) (v : Line)
-      → addLine (withEdge k) (vertexCount + k) v ≡ cond (edgeLineOk (netOf b) v) (next (withEdges (netOf b) (set (placed mostEdges k edge noEdge) k (edgeOf v)))) (stop 16)
+      → addLine (withEdge k) (vertexCount b + k) v ≡ cond (edgeLineOk (netOf b) v) (next (withEdges (netOf b) (set (placed mostEdges k (edgeFrom b) noEdge) k (edgeOf v)))) (stop 16)
   unfolding addLine edgeLineOk edgeOk symbolOk isStorage hasRole vertexAt netOf
   edge-adds k v =
-      let place : vertexCount + k - vertexCount ≡ k = omega arith in
-      rw (le-ltb (vertexCount + k) vertexCount (omega arith), place)
+      let place : vertexCount b + k - vertexCount b ≡ k = omega arith in
+      rw (le-ltb (vertexCount b + k) (vertexCount b) (omega arith), place)
 
-  vertex-adds : (k : ℕ) → k < vertexCount → (v : Line)
-      → addLine (withVertex k) k v ≡ cond (vertexLineOk (netOf b) k v) (next (withVertices (withVertex k) (set (placed mostVertices k vertex noVertex) k (vertexOf v)))) (stop 15)
+  vertex-adds : (k : ℕ) → k < vertexCount b → (v : Line)
+      → addLine (withVertex k) k v ≡ cond (vertexLineOk (netOf b) k v) (next (withVertices (withVertex k) (set (placed mostVertices k (vertexFrom b) noVertex) k (vertexOf v)))) (stop 15)
   unfolding addLine vertexLineOk vertexOk netOf
-  vertex-adds k h v = rw (lt-ltb k vertexCount h)
+  vertex-adds k h v = rw (lt-ltb k (vertexCount b) h)
 
-  module _ (counts : Counts vertexCount edgeCount ((header b) .fourth)) where
-    edges-by-rows : (m k : ℕ) → k + m ≡ edgeCount
-        → readLines m (drop (lineWidth * (1 + vertexCount + k)) b) (vertexCount + k) (withEdge k) ≡ readBy (inTurn m k (edgeRows b) ++ graphRows (netOf b)) (netOf b)
+  module _ (counts : Counts (vertexCount b) (edgeCount b) ((header b) .fourth)) where
+    edges-by-rows : (m k : ℕ) → k + m ≡ edgeCount b
+        → readLines m (drop (lineWidth * (1 + vertexCount b + k)) b) (vertexCount b + k) (withEdge k) ≡ readBy (inTurn m k (edgeRows b) ++ graphRows (netOf b)) (netOf b)
     unfolding readLines inTurn byRows netOf edgeRows
     edges-by-rows zero k h =
-        let all : k ≡ edgeCount = omega arith in
+        let all : k ≡ edgeCount b = omega arith in
         ap (λ (n : ℕ). conclude (withEdge n) (firstRow (graphRows (withEdge n)))) all ∙ concluded (netOf b) (firstRow (graphRows (netOf b)))
     edges-by-rows (suc m) k h =
-        read-line m (1 + vertexCount + k) (vertexCount + k) (withEdge k)
-        ∙ line-by-rows m (drop (lineWidth * suc (1 + vertexCount + k)) b) (vertexCount + k) (suc (1 + vertexCount + k)) 16 (omega arith)
+        read-line m (1 + vertexCount b + k) (vertexCount b + k) (withEdge k)
+        ∙ line-by-rows m (drop (lineWidth * suc (1 + vertexCount b + k)) b) (vertexCount b + k) (suc (1 + vertexCount b + k)) 16 (omega arith)
         (withEdge k) (netOf b) (inTurn m (suc k) (edgeRows b) ++ graphRows (netOf b)) (edgeLineOk (netOf b))
-        (λ v. withEdges (netOf b) (set (placed mostEdges k edge noEdge) k (edgeOf v))) (edge-adds k) (lineAt b (1 + vertexCount + k))
+        (λ v. withEdges (netOf b) (set (placed mostEdges k (edgeFrom b) noEdge) k (edgeOf v))) (edge-adds k) (lineAt b (1 + vertexCount b + k))
         (λ _.
-        rw (placed-more mostEdges edge noEdge k (omega (arith, counts .edges)))
-        (rw (add-suc (1 + vertexCount) k, add-suc vertexCount k) at (edges-by-rows m (suc k) (omega arith))))
+        rw (placed-more mostEdges (edgeFrom b) noEdge k (omega (arith, counts .edges)))
+        (rw (add-suc (1 + vertexCount b) k, add-suc (vertexCount b) k) at (edges-by-rows m (suc k) (omega arith))))
 
-    vertices-by-rows : (m k : ℕ) → k + m ≡ vertexCount
-        → readLines (m + edgeCount) (drop (lineWidth * (1 + k)) b) k (withVertex k)
-        ≡ readBy (inTurn m k (vertexRows b) ++ (inTurn edgeCount 0 (edgeRows b) ++ graphRows (netOf b))) (netOf b)
+    vertices-by-rows : (m k : ℕ) → k + m ≡ vertexCount b
+        → readLines (m + edgeCount b) (drop (lineWidth * (1 + k)) b) k (withVertex k)
+        ≡ readBy (inTurn m k (vertexRows b) ++ (inTurn (edgeCount b) 0 (edgeRows b) ++ graphRows (netOf b))) (netOf b)
     unfolding inTurn byRows netOf vertexRows
     vertices-by-rows zero k h =
-        let all : k ≡ vertexCount = omega arith in
-        ap (λ (n : ℕ). readLines (0 + edgeCount) (drop (lineWidth * (1 + n)) b) n (withVertex n)) all
-        ∙ rw (zero-add edgeCount) (rw (add-zero (1 + vertexCount), add-zero vertexCount) at (edges-by-rows edgeCount 0 (zero-add edgeCount)))
+        let all : k ≡ vertexCount b = omega arith in
+        ap (λ (n : ℕ). readLines (0 + edgeCount b) (drop (lineWidth * (1 + n)) b) n (withVertex n)) all
+        ∙ rw (zero-add (edgeCount b)) (rw (add-zero (1 + vertexCount b), add-zero (vertexCount b)) at (edges-by-rows (edgeCount b) 0 (zero-add (edgeCount b))))
     vertices-by-rows (suc m) k h =
-        rw (suc-add m edgeCount)
-        (read-line (m + edgeCount) (1 + k) k (withVertex k)
-        ∙ line-by-rows (m + edgeCount) (drop (lineWidth * suc (1 + k)) b) k (suc (1 + k)) 15 (omega arith)
-        (withVertex k) (netOf b) (inTurn m (suc k) (vertexRows b) ++ (inTurn edgeCount 0 (edgeRows b) ++ graphRows (netOf b))) (vertexLineOk (netOf b) k)
-        (λ v. withVertices (withVertex k) (set (placed mostVertices k vertex noVertex) k (vertexOf v))) (vertex-adds k (omega arith)) (lineAt b (1 + k))
+        rw (suc-add m (edgeCount b))
+        (read-line (m + edgeCount b) (1 + k) k (withVertex k)
+        ∙ line-by-rows (m + edgeCount b) (drop (lineWidth * suc (1 + k)) b) k (suc (1 + k)) 15 (omega arith)
+        (withVertex k) (netOf b) (inTurn m (suc k) (vertexRows b) ++ (inTurn (edgeCount b) 0 (edgeRows b) ++ graphRows (netOf b))) (vertexLineOk (netOf b) k)
+        (λ v. withVertices (withVertex k) (set (placed mostVertices k (vertexFrom b) noVertex) k (vertexOf v))) (vertex-adds k (omega arith)) (lineAt b (1 + k))
         (λ _.
-        rw (placed-more mostVertices vertex noVertex k (omega (arith, counts .vertices)))
+        rw (placed-more mostVertices (vertexFrom b) noVertex k (omega (arith, counts .vertices)))
         (rw (add-suc 1 k) at (vertices-by-rows m (suc k) (omega arith)))))
 
 -- ---- the header, and the whole sheet
@@ -160,7 +149,7 @@ start-unused : (b : List ℕ) → startNet (vertexCount b) (edgeCount b) ((heade
 unfolding startNet netOf
 start-unused b =
     ap₂ (λ (xs : List Vertex) (es : List Edge). withEdges (withVertices (netOf b) xs) es)
-    (placed-none mostVertices (vertex b) noVertex) (placed-none mostEdges (edge b) noEdge)
+    (placed-none mostVertices (vertexFrom b) noVertex) (placed-none mostEdges (edgeFrom b) noEdge)
 
 module _ (b : List ℕ) where
   abbrev body : List Row
@@ -180,11 +169,6 @@ module _ (b : List ℕ) where
       (λ _. header-by-rows b body (netOf b) (lineAt b 0) body-by-rows)
 
   -- ---- what a sheet is answered
-
-  turn-positive : (m i : ℕ) (f : ℕ → List Row) → ((k : ℕ) → positive (f k) ≡ true) → positive (inTurn m i f) ≡ true
-  unfolding inTurn positive
-  turn-positive zero i f h = refl
-  turn-positive (suc m) i f h = positive-append (f i) (inTurn m (suc i) f) (h i) (turn-positive m (suc i) f h)
 
   pub sheet-positive : positive (sheetRows b) ≡ true
   unfolding sheetRows positive vertexRows edgeRows graphRows

@@ -6,6 +6,8 @@ use mathlib.Core.Option.{Option, none, some}
 use lib.Dec.{eqb, ltb}
 use lib.ListN.{length, take, drop}
 use Rattle.ternary.specs.Lists.{table}
+use Rattle.net.specs.declared.Vertex.{Vertex}
+use Rattle.net.specs.declared.Edge.{Edge}
 use Rattle.net.specs.declared.Net.{Net}
 use Rattle.net.specs.Limits.{mostVertices, mostEdges}
 use Rattle.net.specs.Graph.{noVertex, noEdge}
@@ -43,14 +45,34 @@ module _ (b : List ℕ) where
   abbrev pub header : Line
   header = numbersOf (lineAt b 0)
 
+  -- V and E
+  abbrev pub vertexCount : ℕ
+  vertexCount = header .second
+
+  abbrev pub edgeCount : ℕ
+  edgeCount = header .third
+
+  -- the lines of vertex j and of edge i, both from 0
+  abbrev pub vertexLineAt : ℕ → Option Line
+  vertexLineAt j = lineAt b (1 + j)
+
+  abbrev pub edgeLineAt : ℕ → Option Line
+  edgeLineAt i = lineAt b (1 + vertexCount + i)
+
   -- the record that the lines of a sheet give, be they allowed or not
+  abbrev pub vertexFrom : ℕ → Vertex
+  vertexFrom j = vertexOf (numbersOf (vertexLineAt j))
+
+  abbrev pub edgeFrom : ℕ → Edge
+  edgeFrom i = edgeOf (numbersOf (edgeLineAt i))
+
   unfoldable pub netOf : Net
   netOf =
       record {
-        vertices = placed mostVertices (header .second) (λ j. vertexOf (numbersOf (lineAt b (1 + j)))) noVertex;
-        edges = placed mostEdges (header .third) (λ i. edgeOf (numbersOf (lineAt b (1 + header .second + i)))) noEdge;
-        «vertex_count» = header .second;
-        «edge_count» = header .third;
+        vertices = placed mostVertices vertexCount vertexFrom noVertex;
+        edges = placed mostEdges edgeCount edgeFrom noEdge;
+        «vertex_count» = vertexCount;
+        «edge_count» = edgeCount;
         «letter_count» = header .fourth;
       }
 
@@ -58,16 +80,15 @@ module _ (b : List ℕ) where
   abbrev pub fieldsRow : ℕ → Row
   fieldsRow n = row 12 (whenAt (suc n) (isMissing (lineAt b n)))
 
-  -- the line of vertex j, from 0, and that of edge i, from 0: its fields, then its values
+  -- the line of a vertex, and that of an edge: its fields, then its values
   unfoldable pub vertexRows : ℕ → List Row
-  vertexRows j =
-      let n = 1 + j in
-      fieldsRow n ∷ row 15 (whenAt (suc n) (not (vertexLineOk netOf j (numbersOf (lineAt b n))))) ∷ []
+  vertexRows j = fieldsRow (1 + j) ∷ row 15 (whenAt (suc (1 + j)) (not (vertexLineOk netOf j (numbersOf (vertexLineAt j))))) ∷ []
 
   unfoldable pub edgeRows : ℕ → List Row
   edgeRows i =
-      let n = 1 + header .second + i in
-      fieldsRow n ∷ row 16 (whenAt (suc n) (not (edgeLineOk netOf (numbersOf (lineAt b n))))) ∷ []
+      fieldsRow (1 + vertexCount + i)
+      ∷ row 16 (whenAt (suc (1 + vertexCount + i)) (not (edgeLineOk netOf (numbersOf (edgeLineAt i)))))
+      ∷ []
 
   -- its length; line 1; the number of lines; each later line in turn; the graph
   unfoldable pub sheetRows : List Row
@@ -75,5 +96,5 @@ module _ (b : List ℕ) where
       row 11 (when (not (sizeOk (length b))))
       ∷ fieldsRow 0
       ∷ row 13 (whenAt 1 (not (headerOk header)))
-      ∷ row 14 (when (not (eqb (length b / lineWidth) (1 + header .second + header .third))))
-      ∷ (inTurn (header .second) 0 vertexRows ++ (inTurn (header .third) 0 edgeRows ++ graphRows netOf))
+      ∷ row 14 (when (not (eqb (length b / lineWidth) (1 + vertexCount + edgeCount))))
+      ∷ (inTurn vertexCount 0 vertexRows ++ (inTurn edgeCount 0 edgeRows ++ graphRows netOf))
