@@ -15,7 +15,7 @@ use Rattle.sheet.specs.Line.{lineNumber, sheetLine}
 use Rattle.sheet.specs.Reading.{readSheet}
 use Rattle.sheet.specs.Valid.{valid}
 use Rattle.sheet.specs.Job.{jobOf, jobNumber}
-use Rattle.sheet.proofs.RowLaws.{first-none, by-rows-none}
+use Rattle.sheet.proofs.RowLaws.{by-rows-fit}
 use Rattle.sheet.proofs.ReadLaws.{valid-iff-accepted}
 use Rattle.sheet.proofs.SheetRowLaws.{sheet-zero, sheet-number, sheet-refused, sheet-accepted}
 use Rattle.sheet.proofs.Outcome.{Outcome, outcome}
@@ -104,7 +104,7 @@ module _ (N : Net) (jobs results answers : List ℕ) where
 
   runs : NoRow rows → batchOf N jobs results answers ≡ record { answer = answer 0 0; buffers = runJobs N js results answers }
   unfolding batchOf
-  runs fit = by-rows-none rows _ _ (first-none rows .1 fit)
+  runs fit = by-rows-fit rows _ _ fit
 
   room : NoRow rows → length js * jobWidth N ≤ length results
   room fit = rw size (batch-fit N count results answers fit .results-room)

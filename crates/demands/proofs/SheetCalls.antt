@@ -8,7 +8,7 @@ use Rattle.net.specs.Graph.{keyCount}
 use Rattle.sheet.specs.declared.Answer.{Answer}
 use Rattle.sheet.specs.Rows.{answer, Row, firstRow, byRows, answered}
 use Rattle.sheet.specs.SheetRows.{netOf, sheetRows}
-use Rattle.sheet.proofs.RowLaws.{by-rows-none, by-rows-some, by-rows-answer, by-rows-map, by-rows-append, positive, positive-append, first-none, first-some, answered-zero, answered-some}
+use Rattle.sheet.proofs.RowLaws.{by-rows-fit, by-rows-first, by-rows-answer, by-rows-map, by-rows-append, positive, positive-append, answered-zero, answered-some}
 use Rattle.sheet.proofs.SheetRowLaws.{sheet-positive, read-then}
 use Rattle.soundness.specs.Verdict.{verdictRows, verdictOf}
 use Rattle.settlements.specs.Batch.{jobCount, pieces, runJobs, Batch, batched, batchRows, batchOf}
@@ -47,9 +47,8 @@ module _ (sheet : List ℕ) where
   unfolding verdictRows positive
   demand1-judged = record {
     answered = answers-by (sheetRows sheet ++ verdictRows N) (positive-append (sheetRows sheet) (verdictRows N) (sheet-positive sheet) refl) judged-answer;
-    unread = λ n p f.
-        ap (λ (j : Judged). j .keys) (judged-by-rows ∙ by-rows-some (sheetRows sheet) _ _ (answer n p) (first-some (sheetRows sheet) n p .1 f));
-    read = λ f. ap (λ (j : Judged). j .keys) (judged-by-rows ∙ by-rows-none (sheetRows sheet) _ _ (first-none (sheetRows sheet) .1 f));
+    unread = λ n p f. judged-by-rows ∙ by-rows-first (sheetRows sheet) _ _ n p f;
+    read = λ f. judged-by-rows ∙ by-rows-fit (sheetRows sheet) _ _ f;
   }
 
   -- ---- a batch on a sheet
@@ -82,8 +81,7 @@ module _ (sheet : List ℕ) where
       answered =
           answers-by (sheetRows sheet ++ rows) (positive-append (sheetRows sheet) rows (sheet-positive sheet) refl)
           (ap (λ (s : Batch). s .answer) batch-by-all ∙ by-rows-answer (sheetRows sheet ++ rows) ran refuse (λ (s : Batch). s .answer) refl (λ a. refl));
-      untouched = λ n p f. batch-by-all ∙ by-rows-some (sheetRows sheet ++ rows) ran refuse (answer n p) (first-some (sheetRows sheet ++ rows) n p .1 f);
-      unread = λ n p f.
-          ap (λ (s : SheetBatch). s .keys) (batch-by-rows ∙ by-rows-some (sheetRows sheet) _ _ (answer n p) (first-some (sheetRows sheet) n p .1 f));
-      read = λ f. ap (λ (s : SheetBatch). s .keys) (batch-by-rows ∙ by-rows-none (sheetRows sheet) _ _ (first-none (sheetRows sheet) .1 f));
+      untouched = λ n p f. batch-by-all ∙ by-rows-first (sheetRows sheet ++ rows) ran refuse n p f;
+      unread = λ n p f. batch-by-rows ∙ by-rows-first (sheetRows sheet) _ _ n p f;
+      read = λ f. batch-by-rows ∙ by-rows-fit (sheetRows sheet) _ _ f;
     }

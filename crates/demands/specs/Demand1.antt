@@ -18,11 +18,12 @@ use Rattle.sheet.specs.Rows.{answer, Row, row, First, NoRow}
 use Rattle.sheet.specs.Record.{refused, accepted}
 use Rattle.sheet.specs.SheetRows.{netOf, sheetRows}
 use Rattle.sheet.specs.Job.{jobOf, jobNumber}
-use Rattle.soundness.specs.Verdict.{verdictRows}
+use Rattle.soundness.specs.Verdict.{verdictRows, verdictOf}
 use Rattle.settlements.specs.Settle.{Settlement, unsettled, settleRows}
-use Rattle.settlements.specs.Batch.{jobCount, jobWidth, answerWidth, jobRows, Batch, batched, batchRows}
+use Rattle.settlements.specs.Batch.{jobCount, jobWidth, answerWidth, jobRows, Batch, batched, batchRows, batchOf}
 use Rattle.output.specs.declared.Judged.{Judged}
-use Rattle.output.specs.ForC.{SheetBatch}
+use Rattle.output.specs.Output.{judged}
+use Rattle.output.specs.ForC.{SheetBatch, sheetBatch}
 
 -- a call answers by its rows: number 0 exactly if no row's condition holds, and a number with its place exactly if its row is the first that holds
 pub record Answers (rows : List Row) (given : Answer) : Type 0 where
@@ -35,19 +36,20 @@ pub record SheetAnswers (sheet : List ℕ) (given : Reading) : Type 0 where
   pub empty : (n p : ℕ) → First (sheetRows sheet) n p → given ≡ refused (answer n p)
   pub read : NoRow (sheetRows sheet) → given ≡ accepted (netOf sheet)
 
--- what a sheet is judged to be: the rows of the reader come first, with h at 0, then those of the verdict
+-- what a sheet is judged to be: the rows of the reader come first, with h at 0, then those of the verdict, with the net's h
 pub record JudgedAnswers (sheet : List ℕ) (given : Judged) : Type 0 where
   pub answered : Answers (sheetRows sheet ++ verdictRows (netOf sheet)) (given .answer)
-  pub unread : (n p : ℕ) → First (sheetRows sheet) n p → given .keys ≡ 0
-  pub read : NoRow (sheetRows sheet) → given .keys ≡ keyCount (netOf sheet)
+  pub unread : (n p : ℕ) → First (sheetRows sheet) n p → given ≡ judged (answer n p) 0
+  pub read : NoRow (sheetRows sheet) → given ≡ judged (verdictOf (netOf sheet)) (keyCount (netOf sheet))
 
--- a batch on a sheet: the rows of the reader come first, then those of a batch; under a number of either both buffers stay as they were
+-- a batch on a sheet: the rows of the reader come first, with h at 0, then those of a batch, with the net's h; under a number of either both buffers stay as
+-- they were, and without a number of the reader it is the batch on the net
 pub record SheetBatchAnswers (sheet jobs results answers : List ℕ) (given : SheetBatch) : Type 0 where
   pub answered : Answers (sheetRows sheet ++ batchRows (netOf sheet) (jobCount jobs) results answers) (given .batch .answer)
   pub untouched : (n p : ℕ) → First (sheetRows sheet ++ batchRows (netOf sheet) (jobCount jobs) results answers) n p
       → given .batch ≡ batched (answer n p) results answers
-  pub unread : (n p : ℕ) → First (sheetRows sheet) n p → given .keys ≡ 0
-  pub read : NoRow (sheetRows sheet) → given .keys ≡ keyCount (netOf sheet)
+  pub unread : (n p : ℕ) → First (sheetRows sheet) n p → given ≡ sheetBatch (batched (answer n p) results answers) 0
+  pub read : NoRow (sheetRows sheet) → given ≡ sheetBatch (batchOf (netOf sheet) jobs results answers) (keyCount (netOf sheet))
 
 -- settling: a refusal has counts 0 and leaves both buffers as they were
 pub record SettleAnswers (N : Net) (A B q : ℕ) (R T : List ℕ) (S : Settlement) : Type 0 where

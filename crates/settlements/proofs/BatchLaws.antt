@@ -21,7 +21,7 @@ use Rattle.sheet.specs.declared.JobLine.the-variants.{Asked, Refused}
 use Rattle.sheet.specs.Rows.{answer, Row, firstRow, answered, First, NoRow}
 use Rattle.sheet.specs.Valid.{valid}
 use Rattle.sheet.specs.Job.{jobOf}
-use Rattle.sheet.proofs.RowLaws.{by-rows-none, by-rows-some, by-rows-answer, positive, first-some, answered-zero, answered-some}
+use Rattle.sheet.proofs.RowLaws.{by-rows-none, by-rows-first, by-rows-answer, positive, answered-zero, answered-some}
 use Rattle.settlements.specs.Settle.{Settlement, written, settleUnder}
 use Rattle.settlements.specs.Batch.{jobCount, pieces, jobWidth, answerWidth, jobRows, jobSettlement, runJobs, Batch, batchRows, batchOf}
 use Rattle.settlements.proofs.SettleLaws.{Startable, settlementAnswer, inputs-pass, start-passes, rest-passes, settle-none, settle-some, length-written-r, length-written-t}
@@ -197,7 +197,7 @@ module _ (N : Net) (jobs results answers : List ℕ) where
   -- and then no byte changes
   pub batch-refused : (n p : ℕ) → First rows n p → batchOf N jobs results answers ≡ record { answer = answer n p; buffers = record { results = results; answers = answers } }
   unfolding batchOf
-  batch-refused n p f = by-rows-some rows _ _ (answer n p) (first-some rows n p .1 f)
+  batch-refused n p f = by-rows-first rows _ _ n p f
 
 -- ---- the answer of one job, by rows
 

@@ -19,7 +19,7 @@ use Rattle.net.proofs.WellFormed.{place-c1-none, stable-iff}
 use Rattle.sheet.specs.declared.Answer.{Answer}
 use Rattle.sheet.specs.Rows.{answer, Row, firstRow, answered, First, NoRow}
 use Rattle.sheet.specs.Valid.{valid}
-use Rattle.sheet.proofs.RowLaws.{by-rows-none, by-rows-some, by-rows-answer, positive, first-some, answered-zero, answered-some}
+use Rattle.sheet.proofs.RowLaws.{by-rows-none, by-rows-some, by-rows-first, by-rows-answer, positive, answered-zero, answered-some}
 use Rattle.settlements.specs.Settle.{Settlement, unsettled, written, settleUnder, settleRows, settleOf}
 
 -- what a job may be settled from: both inputs are input states, and the start is a key state that is stable under the old
@@ -101,5 +101,5 @@ module _ (N : Net) (A B q : ℕ) (R T : List ℕ) where
 
   -- and then the counts are 0 and no byte changes
   pub settle-refused : (n p : ℕ) → First (settleRows N A B q R T) n p → settleOf N A B q R T ≡ unsettled (answer n p) R T
-  unfolding settleOf
-  settle-refused n p f = settle-some N A B q (settleRows N A B q R T) R T (answer n p) (first-some (settleRows N A B q R T) n p .1 f)
+  unfolding settleOf settleUnder
+  settle-refused n p f = by-rows-first (settleRows N A B q R T) _ _ n p f

@@ -17,13 +17,13 @@ pub mod Validity
 pub mod WriteLaws
 pub mod BodySteps
 pub mod TurnLaws
+pub mod LoopLaws
 pub mod SheetRowLaws
 pub mod FitSheets
 pub mod JoinedLines
 pub mod ReadLaws
 pub mod CheckedLaws
 pub mod Progress
-pub mod LoopLaws
 pub mod ReaderSteps
 pub mod HeaderSteps
 pub mod RecordSteps

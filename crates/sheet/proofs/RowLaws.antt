@@ -84,6 +84,13 @@ module _ {A : Type 0} (rs : List Row) (x : A) (refuse : Answer → A) where
   unfolding byRows
   by-rows-some a e = rw (e, byRows)
 
+  -- the same, by what is declared of the rows
+  pub by-rows-fit : NoRow rs → byRows rs x refuse ≡ x
+  by-rows-fit f = by-rows-none (first-none rs .1 f)
+
+  pub by-rows-first : (n p : ℕ) → First rs n p → byRows rs x refuse ≡ refuse (answer n p)
+  by-rows-first n p f = by-rows-some (answer n p) (first-some rs n p .1 f)
+
   -- where what is given tells its answer, that is 0 or the first row's
   pub by-rows-answer : (answerOf : A → Answer) → answerOf x ≡ answer 0 0 → ((a : Answer) → answerOf (refuse a) ≡ a)
       → answerOf (byRows rs x refuse) ≡ answered (firstRow rs)

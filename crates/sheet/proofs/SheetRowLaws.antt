@@ -9,7 +9,6 @@ use mathlib.Core.List.{List, _∷_, _++_}
 use mathlib.Core.Option.{Option, none, some}
 use lib.Dec.{eqb}
 use lib.ListN.{length, drop, set}
-use lib.Seq.{drop-drop}
 use borrow.Author.Tests.{lt-ltb, le-ltb, ne-eqb}
 use Rattle.net.specs.declared.Vertex.{Vertex}
 use Rattle.net.specs.declared.Edge.{Edge}
@@ -24,21 +23,18 @@ use Rattle.sheet.specs.Rows.{answer, Row, row, when, whenAt, firstRow, b
 use Rattle.sheet.specs.Record.{startNet, refused, accepted}
 use Rattle.sheet.specs.Rules.{headerOk, vertexOk, symbolOk, edgeOk}
 use Rattle.sheet.specs.Graph.{graphRows}
-use Rattle.sheet.specs.Reading.{Step, vertexOf, edgeOf, withVertices, withEdges, vertexLineOk, edgeLineOk, addLine, stepLine, conclude, readLines, sizeOk, readHeader, readSheet}
+use Rattle.sheet.specs.Reading.{vertexOf, edgeOf, withVertices, withEdges, vertexLineOk, edgeLineOk, addLine, stepLine, conclude, readLines, sizeOk, readHeader, readSheet}
 use Rattle.sheet.specs.Reading.Step.{next, stop}
 use Rattle.sheet.specs.SheetRows.{lineAt, isMissing, numbersOf, placed, inTurn, header, vertexCount, edgeCount, vertexFrom, edgeFrom, netOf, vertexRows, edgeRows, sheetRows}
-use Rattle.sheet.proofs.RowLaws.{RowsAnswer, nothing, found, rows-answer, positive-first, by-rows-none, by-rows-some, by-rows-answer, by-rows-tested, positive, positive-append, first-none, first-some, answered-zero, answered-some}
+use Rattle.sheet.proofs.RowLaws.{RowsAnswer, nothing, found, rows-answer, positive-first, by-rows-fit, by-rows-first, by-rows-answer, by-rows-tested, positive, positive-append, answered-zero, answered-some}
 use Rattle.sheet.proofs.RuleLaws.{Counts, header-counts}
 use Rattle.sheet.proofs.TurnLaws.{turn-positive}
+use Rattle.sheet.proofs.LoopLaws.{afterStep, read-step}
 use Rattle.sheet.proofs.PlacedLaws.{placed-none, placed-more}
 
 -- what a reading gives by its rows: the record N where none holds
 abbrev readBy : List Row → Net → Reading
 readBy rows N = byRows rows (accepted N) refused
-
--- the rest of `readLines` after a step; an `elim` as there, since clauses would not be equal to it by computation
-abbrev afterStep : ℕ → List ℕ → ℕ → Step → Reading
-afterStep left rest j s = elim s [ next N ↦ readLines left rest (suc j) N | stop n ↦ refused (answer n (j + 2)) ]
 
 -- ---- one line: its fields, then its values
 
@@ -69,10 +65,8 @@ module _ (b : List ℕ) where
 
   -- line n is taken off the front
   read-line : (left n j : ℕ) (N : Net) → readLines (suc left) (drop (lineWidth * n) b) j N ≡ afterStep left (drop (lineWidth * suc n) b) j (stepLine (lineAt b n) j N)
-  unfolding readLines lineAt
-  read-line left n j N =
-      let after : drop lineWidth (drop (lineWidth * n) b) ≡ drop (lineWidth * suc n) b = drop-drop lineWidth (lineWidth * n) b ∙ rw mul-suc in
-      ap (λ (l : List ℕ). afterStep left l j (stepLine (lineAt b n) j N)) after
+  unfolding lineAt
+  read-line left n j N = read-step b (lineWidth * n) left j N ∙ rw mul-suc
 
   concluded : (N : Net) (o : Option Answer) → conclude N o ≡ elim o [ none ↦ accepted N | some a ↦ refused a ]
   unfolding conclude
@@ -187,18 +181,18 @@ module _ (b : List ℕ) where
 
   -- a refusal has the empty record
   pub sheet-refused : (n p : ℕ) → First (sheetRows b) n p → readSheet b ≡ refused (answer n p)
-  sheet-refused n p f = read-by-rows ∙ by-rows-some (sheetRows b) _ _ (answer n p) (first-some (sheetRows b) n p .1 f)
+  sheet-refused n p f = read-by-rows ∙ by-rows-first (sheetRows b) _ _ n p f
 
   pub sheet-accepted : NoRow (sheetRows b) → readSheet b ≡ accepted (netOf b)
-  sheet-accepted f = read-by-rows ∙ by-rows-none (sheetRows b) _ _ (first-none (sheetRows b) .1 f)
+  sheet-accepted f = read-by-rows ∙ by-rows-fit (sheetRows b) _ _ f
 
   -- what a call that reads a sheet first gives: by the sheet's rows, and where none holds by the net
   pub read-then : {A : Type 0} (good : Net → A) (bad : Answer → A)
       → cond (eqb ((readSheet b) .answer .number) 0) (good ((readSheet b) .net)) (bad ((readSheet b) .answer)) ≡ byRows (sheetRows b) (good (netOf b)) bad
-  read-then good bad = go (rows-answer (sheetRows b)) refl
+  read-then good bad = go (rows-answer (sheetRows b))
     where
-      go : {o : Option Answer} → RowsAnswer (sheetRows b) o → firstRow (sheetRows b) ≡ o
+      go : {o : Option Answer} → RowsAnswer (sheetRows b) o
           → cond (eqb ((readSheet b) .answer .number) 0) (good ((readSheet b) .net)) (bad ((readSheet b) .answer)) ≡ byRows (sheetRows b) (good (netOf b)) bad
-      go (nothing f) e = rw (sheet-accepted f, by-rows-none (sheetRows b) (good (netOf b)) bad e)
-      go (found {n = n} {p = p} f) e =
-          rw (sheet-refused n p f, ne-eqb n 0 (omega (arith, positive-first sheet-positive f)), by-rows-some (sheetRows b) (good (netOf b)) bad (answer n p) e)
+      go (nothing f) = rw (sheet-accepted f, by-rows-fit (sheetRows b) (good (netOf b)) bad f)
+      go (found {n = n} {p = p} f) =
+          rw (sheet-refused n p f, ne-eqb n 0 (omega (arith, positive-first sheet-positive f)), by-rows-first (sheetRows b) (good (netOf b)) bad n p f)

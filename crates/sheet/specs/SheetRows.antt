@@ -23,6 +23,7 @@ use Rattle.sheet.specs.Reading.{vertexOf, edgeOf, vertexLineOk, edgeLine
 unfoldable pub lineAt : List ℕ → ℕ → Option Line
 lineAt b n = readLine (take lineWidth (drop (lineWidth * n) b))
 
+-- is it not five fields?
 abbrev pub isMissing : Option Line → Bool
 isMissing none = true
 isMissing (some v) = false

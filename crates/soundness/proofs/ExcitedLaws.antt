@@ -12,9 +12,9 @@ use Rattle.net.specs.Graph.{isStorage}
 use Rattle.net.specs.Excitation.{excitation}
 use Rattle.net.specs.Network.{Clean}
 use Rattle.sheet.specs.declared.Answer.{Answer}
-use Rattle.sheet.specs.Rows.{answer, Row, firstRow, First, NoRow}
+use Rattle.sheet.specs.Rows.{Row, firstRow, First, NoRow}
 use Rattle.sheet.specs.Valid.{valid}
-use Rattle.sheet.proofs.RowLaws.{RowsAnswer, nothing, found, rows-answer, positive, positive-first, first-none, first-some, by-rows-none, by-rows-some}
+use Rattle.sheet.proofs.RowLaws.{RowsAnswer, nothing, found, rows-answer, positive, positive-first, first-none, by-rows-fit, by-rows-first}
 use Rattle.soundness.specs.declared.Excited.the-variants.{Value, Refused}
 use Rattle.soundness.specs.Excited.{excitationRows, excitedOf, excitedNumber}
 
@@ -24,11 +24,11 @@ module _ (N : Net) (a q y : ℕ) where
 
   no-row : NoRow rows → excitedOf N a q y ≡ Value (excitation N a q y)
   unfolding excitedOf
-  no-row h = by-rows-none rows _ _ (first-none rows .1 h)
+  no-row h = by-rows-fit rows _ _ h
 
   a-row : (n p : ℕ) → First rows n p → excitedOf N a q y ≡ Refused n
   unfolding excitedOf
-  a-row n p h = by-rows-some rows _ _ (answer n p) (first-some rows n p .1 h)
+  a-row n p h = by-rows-first rows _ _ n p h
 
   pub excited-value : (v : ℕ) → (excitedOf N a q y ≡ Value v) ↔ (NoRow rows × (excitation N a q y ≡ v))
   excited-value v = (λ e. there e (rows-answer rows), λ h. no-row (h .0) ∙ ap Value (h .1))
