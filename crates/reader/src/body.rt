@@ -1,14 +1,15 @@
 //! The lines below the header, counted from 0: first the vertices, then the edges.
 
 ghost use mathlib.Core.Path.{_≡_};
-ghost use Prim.Native.Nat.{_+_, _≤_, _<_};
-ghost use Rattle.net.specs.Limits.{mostVertices, mostEdges};
-ghost use Rattle.sheet.specs.Reading.{vertexOf, edgeOf, vertexLineOk, edgeLineOk, addLine, addedOf};
+ghost use Prim.Native.Nat.{_≤_};
+ghost use Rattle.sheet.specs.Reading.{vertexOf, edgeOf, vertexLineOk, edgeLineOk};
+ghost use Rattle.sheet.specs.Entries.{decodeLine, refusalOf, withEntry, HasPlace};
 use net::Edge;
 use net::Net;
 use net::Vertex;
-use sheet::Added;
 use sheet::Answer;
+use sheet::Decoded;
+use sheet::Entry;
 use sheet::Line;
 
 // A record's roles, forms and ends are bytes; a larger number of a line is none of them.
@@ -78,36 +79,48 @@ fn edge_line_ok(net: Net, v: Line) -> bool
     rules::edge_ok(net, edge_of(v))
 }
 
-// The record with line j, or the number of its refusal.
-pub(crate) fn add_line(net: Net, j: usize, v: Line) -> Added
-    requires { ⌜ (j < net .«vertex_count» + net .«edge_count») × (net .«vertex_count» ≤ mostVertices) × (net .«edge_count» ≤ mostEdges) ⌝ }
-    ensures { λ r. ⌜ r ≡ addedOf net (addLine net j v) ⌝ }
+// What line j is: a vertex where j is below the vertex count, else an edge; or the number of its refusal.
+pub(crate) fn decode_line(net: Net, j: usize, v: Line) -> Decoded
+    ensures { λ r. ⌜ r ≡ decodeLine net j v ⌝ }
 {
     let vertices = net.vertex_count as usize;
-    let mut next = net;
     if j < vertices {
         if !vertex_line_ok(net, j, v) {
-            return Added {
-                number: Answer::BAD_VERTEX,
-                net,
-            };
+            return Decoded::Refused(Answer::BAD_VERTEX);
         }
-        next.vertices[j] = vertex_of(v);
-        return Added {
-            number: 0,
-            net: next,
-        };
+        return Decoded::Allowed(Entry::Vertex(vertex_of(v)));
     }
     if !edge_line_ok(net, v) {
-        return Added {
-            number: Answer::BAD_EDGE,
-            net,
-        };
+        return Decoded::Refused(Answer::BAD_EDGE);
     }
-    let i = j - vertices;
-    next.edges[i] = edge_of(v);
-    Added {
-        number: 0,
-        net: next,
+    Decoded::Allowed(Entry::Edge(edge_of(v)))
+}
+
+// The number that a line is refused with, 0 where it is allowed.
+pub(crate) fn refusal_of(decoded: Decoded) -> u8
+    ensures { λ r. ⌜ r ≡ refusalOf decoded ⌝ }
+{
+    match decoded {
+        Decoded::Allowed(_) => 0,
+        Decoded::Refused(number) => number,
+    }
+}
+
+// The record with what line j adds.
+pub(crate) fn with_entry(net: Net, j: usize, entry: Entry) -> Net
+    requires { ⌜ HasPlace net j entry ⌝ }
+    ensures { λ r. ⌜ r ≡ withEntry net j entry ⌝ }
+{
+    let mut next = net;
+    match entry {
+        Entry::Vertex(vertex) => {
+            next.vertices[j] = vertex;
+            next
+        }
+        Entry::Edge(edge) => {
+            let i = j - net.vertex_count as usize;
+            next.edges[i] = edge;
+            next
+        }
     }
 }

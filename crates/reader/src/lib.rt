@@ -17,6 +17,7 @@ use net::Edge;
 use net::Net;
 use net::Vertex;
 use sheet::Answer;
+use sheet::Decoded;
 use sheet::Line;
 use sheet::LineRead;
 use sheet::Reading;
@@ -107,11 +108,11 @@ fn read_lines(sheet: &[u8], start: Net, count: usize) -> Reading
         let LineRead::Five(line) = line_values::read_line(&sheet[at..end]) else {
             return refusal(Answer::BAD_LINE, (j + 2) as u16);
         };
-        let added = body::add_line(net, j, line);
-        if added.number != 0 {
-            return refusal(added.number, (j + 2) as u16);
-        }
-        net = added.net;
+        let decoded = body::decode_line(net, j, line);
+        let Decoded::Allowed(entry) = decoded else {
+            return refusal(body::refusal_of(decoded), (j + 2) as u16);
+        };
+        net = body::with_entry(net, j, entry);
         at = end;
         j += 1;
     }

@@ -1,16 +1,22 @@
--- A line below the header, as code tests it and adds it to the record.
-use Prim.Native.Nat.{ℕ, suc, _-_, _≤_, _<_}
+-- A line below the header, as code tests it, decodes it and adds it to the record.
+use Prim.Native.Nat.{ℕ, suc, _+_, _≤_, _<_}
 use native.Mathlib.Omega.{arith}
-use mathlib.Core.Path.{_≡_, sym}
-use mathlib.Core.Bool.{true, false}
-use lib.ListN.{set}
-use borrow.Author.Tests.{eq-eqb, ne-eqb, lt-ltb, le-ltb}
+use mathlib.Core.Path.{_≡_, refl, sym, subst}
+use mathlib.Core.Bool.{Bool, true, false, cond, true≢false}
+use lib.Dec.{ltb}
+use borrow.Author.Tests.{eq-eqb, ne-eqb, lt-ltb, le-ltb, ltb-true, ltb-false}
 use Rattle.net.specs.declared.Net.{Net}
-use Rattle.ternary.proofs.Tests.{ands, fails}
+use Rattle.net.specs.Limits.{mostVertices, mostEdges}
+use Rattle.ternary.proofs.Tests.{ands, fails, cond-by}
 use Rattle.sheet.specs.declared.Line.{Line}
-use Rattle.sheet.specs.declared.Added.{Added}
+use Rattle.sheet.specs.declared.Entry.{Entry}
+use Rattle.sheet.specs.declared.Entry.the-variants.{Vertex, Edge}
+use Rattle.sheet.specs.declared.Decoded.{Decoded}
+use Rattle.sheet.specs.declared.Decoded.the-variants.{Allowed, Refused}
 use Rattle.sheet.specs.Rules.{vertexOk, edgeOk}
-use Rattle.sheet.specs.Reading.{vertexOf, edgeOf, withVertices, withEdges, vertexLineOk, edgeLineOk, addLine, addedOf}
+use Rattle.sheet.specs.Reading.{vertexOf, edgeOf, vertexLineOk, edgeLineOk, addLine}
+use Rattle.sheet.specs.Reading.Step.{next, stop}
+use Rattle.sheet.specs.Entries.{decodeLine, withEntry, stepOf, HasPlace}
 use Rattle.sheet.proofs.RuleLaws.{VertexRange, vertex-range, EdgeRange, edge-range}
 
 -- ---- a vertex line
@@ -60,26 +66,54 @@ module _ (N : Net) (v : Line) where
   unfolding edgeLineOk
   edge-line kind = rw (eq-eqb (v .kind) 3 kind)
 
--- ---- the record with a line
-
-abbrev added : ℕ → Net → Added
-added n N = record { number = n; net = N }
+-- ---- a line, decoded
 
 module _ (N : Net) (j : ℕ) (v : Line) where
   module _ (below : j < N .«vertex_count») where
-    pub vertex-refused : vertexLineOk N j v ≡ false → added 15 N ≡ addedOf N (addLine N j v)
-    unfolding addLine
+    pub vertex-refused : vertexLineOk N j v ≡ false → Refused 15 ≡ decodeLine N j v
+    unfolding decodeLine
     vertex-refused t = rw (lt-ltb j (N .«vertex_count») below, t)
 
-    pub vertex-added : vertexLineOk N j v ≡ true → added 0 (withVertices N (set (N .vertices) j (vertexOf v))) ≡ addedOf N (addLine N j v)
-    unfolding addLine
-    vertex-added t = rw (lt-ltb j (N .«vertex_count») below, t)
+    pub vertex-allowed : vertexLineOk N j v ≡ true → Allowed (Vertex (vertexOf v)) ≡ decodeLine N j v
+    unfolding decodeLine
+    vertex-allowed t = rw (lt-ltb j (N .«vertex_count») below, t)
 
   module _ (after : N .«vertex_count» ≤ j) where
-    pub edge-refused : edgeLineOk N v ≡ false → added 16 N ≡ addedOf N (addLine N j v)
-    unfolding addLine
+    pub edge-refused : edgeLineOk N v ≡ false → Refused 16 ≡ decodeLine N j v
+    unfolding decodeLine
     edge-refused t = rw (le-ltb j (N .«vertex_count») after, t)
 
-    pub edge-added : edgeLineOk N v ≡ true → added 0 (withEdges N (set (N .edges) (j - N .«vertex_count») (edgeOf v))) ≡ addedOf N (addLine N j v)
-    unfolding addLine
-    edge-added t = rw (le-ltb j (N .«vertex_count») after, t)
+    pub edge-allowed : edgeLineOk N v ≡ true → Allowed (Edge (edgeOf v)) ≡ decodeLine N j v
+    unfolding decodeLine
+    edge-allowed t = rw (le-ltb j (N .«vertex_count») after, t)
+
+  -- what reading does with the line is what it does with what the line is decoded to
+  pub decoded-step : stepOf N j (decodeLine N j v) ≡ addLine N j v
+  unfolding decodeLine addLine
+  decoded-step = go (ltb j (N .«vertex_count»)) (vertexLineOk N j v) (edgeLineOk N v)
+    where
+      go : (b c d : Bool)
+          → stepOf N j (cond b (cond c (Allowed (Vertex (vertexOf v))) (Refused 15)) (cond d (Allowed (Edge (edgeOf v))) (Refused 16)))
+          ≡ cond b (cond c (next (withEntry N j (Vertex (vertexOf v)))) (stop 15)) (cond d (next (withEntry N j (Edge (edgeOf v)))) (stop 16))
+      go true true d = refl
+      go true false d = refl
+      go false c true = refl
+      go false c false = refl
+
+  -- within the limits there is a place for what it adds
+  module _ (below : j < N .«vertex_count» + N .«edge_count») (few : N .«vertex_count» ≤ mostVertices) (few-edges : N .«edge_count» ≤ mostEdges) where
+    pub entry-place : (x : Entry) → decodeLine N j v ≡ Allowed x → HasPlace N j x
+    unfolding decodeLine
+    entry-place x =
+        cond-by Placed (ltb j (N .«vertex_count»))
+        (λ t. let low = ltb-true j _ t in cond-by Placed (vertexLineOk N j v) (λ _. placed (Vertex (vertexOf v)) (omega arith)) (λ _. never))
+        (λ t. let high = ltb-false j _ t in cond-by Placed (edgeLineOk N v) (λ _. placed (Edge (edgeOf v)) (high, omega arith)) (λ _. never))
+      where
+        Placed : Decoded → Type 0
+        Placed d = d ≡ Allowed x → HasPlace N j x
+
+        placed : (y : Entry) → HasPlace N j y → Placed (Allowed y)
+        placed y h e = let same : y ≡ x = cc in subst (HasPlace N j) same h
+
+        never : {n : ℕ} → Placed (Refused n)
+        never e = absurd (true≢false (cc))

@@ -6,24 +6,25 @@ use mathlib.Core.Bool.{true≢false}
 use mathlib.Core.List.{List}
 use mathlib.Core.Logic.{_≢_}
 use mathlib.Core.Option.{Option, none, some}
-use lib.Dec.{ltb}
 use lib.ListN.{take, drop}
 use Rattle.net.specs.declared.Net.{Net}
-use Rattle.ternary.proofs.Tests.{cond-by}
-use Rattle.sheet.specs.declared.Added.{Added}
 use Rattle.sheet.specs.declared.Answer.{Answer}
 use Rattle.sheet.specs.declared.Line.{Line}
-use Rattle.sheet.specs.declared.LineRead.the-variants.{Five, Refused}
+use Rattle.sheet.specs.declared.Entry.{Entry}
+use Rattle.sheet.specs.declared.Decoded.the-variants.{Allowed, Refused}
+use Rattle.sheet.specs.declared.LineRead.the-variants.{Five, Refused as NoLine}
 use Rattle.sheet.specs.Limits.{lineWidth}
 use Rattle.sheet.specs.Line.{readLine, lineAnswer}
 use Rattle.sheet.specs.Rows.{firstRow, answered}
 use Rattle.sheet.specs.Record.{refused}
 use Rattle.sheet.specs.Graph.{graphRows}
-use Rattle.sheet.specs.Reading.{Step, vertexLineOk, edgeLineOk, addLine, addedOf, stepLine, conclude}
+use Rattle.sheet.specs.Reading.{addLine, stepLine, conclude}
 use Rattle.sheet.specs.Reading.Step.{next, stop}
+use Rattle.sheet.specs.Entries.{decodeLine, withEntry, stepOf}
+use Rattle.sheet.proofs.BodySteps.{decoded-step}
 use Rattle.sheet.proofs.RowLaws.{positive, answered-zero, first-none}
 
-pub line-none : (o : Option Line) → lineAnswer o ≡ Refused → o ≡ none
+pub line-none : (o : Option Line) → lineAnswer o ≡ NoLine → o ≡ none
 line-none none e = refl
 line-none (some v) e = absurd (true≢false (cc))
 
@@ -40,7 +41,7 @@ module _ (b : List ℕ) (at j : ℕ) (N : Net) where
   whole-line = let n : at + lineWidth - at ≡ lineWidth = omega arith in rw n
 
   -- it is not five fields
-  pub not-fields : lineAnswer (readLine (lent b at)) ≡ Refused → stepLine (readLine (take lineWidth (drop at b))) j N ≡ stop 12
+  pub not-fields : lineAnswer (readLine (lent b at)) ≡ NoLine → stepLine (readLine (take lineWidth (drop at b))) j N ≡ stop 12
   unfolding stepLine
   not-fields e = rw (line-none (readLine (take lineWidth (drop at b))) (rw whole-line at e))
 
@@ -50,29 +51,15 @@ module _ (b : List ℕ) (at j : ℕ) (N : Net) where
     step-is = rw (line-some (readLine (take lineWidth (drop at b))) v (rw whole-line at five))
 
     -- its values are refused
-    pub line-stops : (r : Added) → r ≡ addedOf N (addLine N j v) → r .number ≢ 0 → stepLine (readLine (take lineWidth (drop at b))) j N ≡ stop (r .number)
-    line-stops r e ne = step-is ∙ go (addLine N j v) e
-      where
-        go : (s : Step) → r ≡ addedOf N s → s ≡ stop (r .number)
-        go (next M) f = absurd (ne (ap (λ (x : Added). x .number) f))
-        go (stop n) f = ap stop (sym (ap (λ (x : Added). x .number) f))
+    pub line-stops : (n : ℕ) → decodeLine N j v ≡ Refused n → stepLine (readLine (take lineWidth (drop at b))) j N ≡ stop n
+    line-stops n e = step-is ∙ sym (decoded-step N j v) ∙ ap (stepOf N j) e
 
-    -- it is added
-    pub line-goes-on : (r : Added) → r ≡ addedOf N (addLine N j v) → r .number ≡ 0 → addLine N j v ≡ next (r .net)
-    unfolding addLine
-    line-goes-on r e zero =
-        let number : (addedOf N (addLine N j v)) .number ≡ 0 = ap (λ (x : Added). x .number) (sym e) ∙ zero in
-        cond-by Goes (ltb j (N .«vertex_count»))
-        (λ _. cond-by Goes (vertexLineOk N j v) (λ _ _. refl) (λ _ n. absurd (omega arith)))
-        (λ _. cond-by Goes (edgeLineOk N v) (λ _ _. refl) (λ _ n. absurd (omega arith)))
-        number
-        ∙ ap next (ap (λ (x : Added). x .net) (sym e))
-      where
-        Goes : Step → Type 0
-        Goes s = (addedOf N s) .number ≡ 0 → s ≡ next ((addedOf N s) .net)
+    -- what it adds is added
+    pub line-goes-on : (x : Entry) → decodeLine N j v ≡ Allowed x → addLine N j v ≡ next (withEntry N j x)
+    line-goes-on x e = sym (decoded-step N j v) ∙ ap (stepOf N j) e
 
-    pub line-steps : (r : Added) → r ≡ addedOf N (addLine N j v) → r .number ≡ 0 → stepLine (readLine (take lineWidth (drop at b))) j N ≡ next (r .net)
-    line-steps r e zero = step-is ∙ line-goes-on r e zero
+    pub line-steps : (x : Entry) → decodeLine N j v ≡ Allowed x → stepLine (readLine (take lineWidth (drop at b))) j N ≡ next (withEntry N j x)
+    line-steps x e = step-is ∙ line-goes-on x e
 
 -- ---- the end of the sheet, by the answer of the rows over the graph
 

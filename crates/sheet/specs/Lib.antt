@@ -9,6 +9,7 @@ pub mod Graph
 pub mod Search
 pub mod Checked
 pub mod Reading
+pub mod Entries
 pub mod SheetRows
 pub mod Writing
 pub mod Valid

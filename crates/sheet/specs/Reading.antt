@@ -9,7 +9,6 @@ use Rattle.net.specs.declared.Vertex.{Vertex}
 use Rattle.net.specs.declared.Edge.{Edge}
 use Rattle.net.specs.declared.Net.{Net}
 use Rattle.sheet.specs.declared.Answer.{Answer}
-use Rattle.sheet.specs.declared.Added.{Added}
 use Rattle.sheet.specs.declared.Reading.{Reading}
 use Rattle.sheet.specs.Limits.{lineWidth, mostBytes}
 use Rattle.sheet.specs.declared.Line.{Line}
@@ -67,11 +66,6 @@ addLine N j v =
     (ltb j (N .«vertex_count»))
     (cond (vertexLineOk N j v) (next (withVertices N (set (N .vertices) j (vertexOf v)))) (stop 15))
     (cond (edgeLineOk N v) (next (withEdges N (set (N .edges) (j - N .«vertex_count») (edgeOf v)))) (stop 16))
-
--- the code's answer for a line
-abbrev pub addedOf : Net → Step → Added
-addedOf N (next N′) = record { number = 0; net = N′ }
-addedOf N (stop n) = record { number = n; net = N }
 
 unfoldable pub stepLine : Option Line → ℕ → Net → Step
 stepLine none j N = stop 12

@@ -4,7 +4,9 @@
 
 ghost use mathlib.Core.Path.{_≡_};
 ghost use Rattle.sheet.specs.Limits.{widths};
+use net::Edge;
 use net::Net;
+use net::Vertex;
 
 // Lines of five fields, four columns each, ended by byte 10.
 pub struct Sheet;
@@ -118,10 +120,16 @@ pub enum Found {
     Nothing,
 }
 
-// What one line does to the record: number 0 and the record with it, or the number of a refusal and the record as it was.
-pub struct Added {
-    pub number: u8,
-    pub net: Net,
+// What a line below the header adds to the record.
+pub enum Entry {
+    Vertex(Vertex),
+    Edge(Edge),
+}
+
+// What such a line is decoded to: what it adds, or the number of its refusal.
+pub enum Decoded {
+    Allowed(Entry),
+    Refused(u8),
 }
 
 // What reading a sheet gives: under a number the record is empty.

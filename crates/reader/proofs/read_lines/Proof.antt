@@ -2,17 +2,22 @@
 use Prim.Native.Nat.{_+_, _-_, _*_, _≤_}
 use native.Mathlib.Nat.{sub-zero}
 use native.Mathlib.Omega.{arith}
-use mathlib.Core.Path.{_≡_, refl, sym, _∙_}
+use mathlib.Core.Path.{_≡_, refl, sym, ap, _∙_}
 use lib.ListN.{drop}
 use borrow.Author.Needs.{needs}
 use Rattle.sheet.specs.Limits.{lineWidth}
 use Rattle.sheet.specs.Checked.{SoFar}
+use Rattle.sheet.specs.declared.LineRead.the-variants.{Five}
+use Rattle.sheet.specs.declared.Decoded.the-variants.{Allowed, Refused}
+use Rattle.sheet.specs.Line.{readLine, lineAnswer}
 use Rattle.sheet.specs.Reading.{readLines}
+use Rattle.sheet.specs.Entries.{decodeLine, refusalOf}
 use Rattle.net.specs.Limits.{mostVertices, mostEdges}
 use Rattle.sheet.proofs.RuleLaws.{counts-facts}
 use Rattle.sheet.proofs.Progress.{line-added, counts-kept, all-added}
 use Rattle.sheet.proofs.LoopLaws.{loop-next, loop-stop, loop-end}
-use Rattle.sheet.proofs.ReaderSteps.{not-fields, line-stops, line-goes-on, line-steps}
+use Rattle.sheet.proofs.BodySteps.{entry-place}
+use Rattle.sheet.proofs.ReaderSteps.{lent, not-fields, line-stops, line-goes-on, line-steps}
 use Rattle.reader.proofs.read_lines.Statement.{statement}
 use Rattle.reader.proofs.read_lines.Tie as tie
 
@@ -24,12 +29,34 @@ Inv-loop sheet count net₀ at₀ j₀ net at j =
 abbrev μ-loop : tie.MeasureT-loop
 μ-loop sheet count net₀ at₀ j₀ net at j = count - j
 
+-- places, each from a later one: in the loop, the line read, its five numbers
+abbrev in-loop : tie.After-read-line Inv-loop μ-loop → tie.In-loop Inv-loop μ-loop
+in-loop c = c .before .before
+
+abbrev line-read : tie.After-decode-line Inv-loop μ-loop → tie.After-read-line Inv-loop μ-loop
+line-read c = c .before .before .before .before
+
+-- and the line decoded, where it is allowed and where it is refused
+abbrev allowed : tie.After-known-told2 Inv-loop μ-loop → tie.After-decode-line Inv-loop μ-loop
+allowed c = c .before .before .before
+
+abbrev not-allowed : tie.After-refusal-of Inv-loop μ-loop → tie.After-decode-line Inv-loop μ-loop
+not-allowed c = c .before .before .before
+
 -- a sheet has few lines
 few : (c : tie.In-loop Inv-loop μ-loop) → c .before .before .before .args .count ≤ mostVertices + mostEdges
 few c =
     let w = c .before in
     let n = counts-facts _ _ _ (w .loop .inv .3 .counts) in
     omega arith
+
+-- the line's five numbers, and what it is decoded to where it is allowed
+five : (c : tie.After-decode-line Inv-loop μ-loop)
+    → lineAnswer (readLine (lent (in-loop (line-read c) .before .before .before .args .sheet .now) (in-loop (line-read c) .before .loop .at))) ≡ Five (c .before .before .line .given .0 .0)
+five c = sym (line-read c .read-line .ensures) ∙ c .before .before .line .given .1
+
+entry : (c : tie.After-known-told2 Inv-loop μ-loop) → decodeLine (in-loop (line-read (allowed c)) .before .loop .net) (in-loop (line-read (allowed c)) .before .loop .j) (allowed c .before .before .line .given .0 .0) ≡ Allowed (c .before .decoded .given .0 .0)
+entry c = sym (allowed c .decode-line .ensures) ∙ c .before .decoded .given .1
 
 loop-holds : tie.Need-loop-holds Inv-loop μ-loop
 loop-holds c = let p = c .before .pre in (omega arith, refl, p .1, p .0, rw sub-zero)
@@ -66,35 +93,52 @@ refusal-requires c κs = search needs
 
 returns : tie.Need-returns Inv-loop μ-loop
 returns c =
-    let w = c .before .before .before .before .before .before in
-    let f = c .before .before .before in
+    let read = c .before .before .before in
+    let turn = in-loop read in
+    let w = turn .before in
     c .refusal .ensures
-    ∙ loop-stop _ (w .loop .at) (w .before .before .args .count) (w .loop .j) (w .loop .net) _ (w .loop .inv .4) (c .before .before .before .before .before .loop-test .taken) 12
-    (not-fields _ (w .loop .at) (w .loop .j) (w .loop .net) (sym (f .read-line .ensures) ∙ c .before .enum-told .given .1))
+    ∙ loop-stop _ (w .loop .at) (w .before .before .args .count) (w .loop .j) (w .loop .net) _ (w .loop .inv .4) (turn .loop-test .taken) 12
+    (not-fields _ (w .loop .at) (w .loop .j) (w .loop .net) (sym (read .read-line .ensures) ∙ c .before .enum-told .given .1))
 
-add-line-requires : tie.Need-add-line-requires Inv-loop μ-loop
-add-line-requires c κs =
-    let w = c .before .before .before .before .before .before in
-    let n = counts-facts _ _ _ (w .loop .inv .3 .counts) in
-    (omega arith, n .vertices, n .edges)
+decode-line-requires : tie.Need-decode-line-requires Inv-loop μ-loop
+decode-line-requires c κs = search needs
+
+enum-known-decoded : tie.Need-enum-known-decoded Inv-loop μ-loop
+enum-known-decoded c = search needs
+
+enum-told-2 : tie.Need-enum-told-2 Inv-loop μ-loop
+enum-told-2 c = search needs
+
+refusal-of-requires : tie.Need-refusal-of-requires Inv-loop μ-loop
+refusal-of-requires c κs = search needs
 
 add-refusal-2 : tie.Need-add-refusal-2 Inv-loop μ-loop
-add-refusal-2 c = search needs
+add-refusal-2 c = let turn = in-loop (line-read (not-allowed c)) in omega (arith, few turn, turn .loop-test .taken)
 
 cast-refusal-2 : tie.Need-cast-refusal-2 Inv-loop μ-loop
-cast-refusal-2 c = omega (arith, few (c .before .before .before .before .before .before .before .before), c .before .before .before .before .before .before .before .before .loop-test .taken)
+cast-refusal-2 c = let turn = in-loop (line-read (not-allowed c)) in omega (arith, few turn, turn .loop-test .taken)
 
 refusal-requires-2 : tie.Need-refusal-requires-2 Inv-loop μ-loop
 refusal-requires-2 c κs = search needs
 
 returns-2 : tie.Need-returns-2 Inv-loop μ-loop
 returns-2 c =
-    let w = c .before .before .before .before .before .before .before .before .before .before in
-    let v = c .before .before .before .before .before in
-    let five = sym (c .before .before .before .before .before .before .before .read-line .ensures) ∙ v .line .given .1 in
+    let refused = c .before in
+    let decoded = not-allowed refused in
+    let turn = in-loop (line-read decoded) in
+    let w = turn .before in
+    let told = refused .before .enum-told2 .given .1 in
+    let number = refused .refusal-of .ensures ∙ ap refusalOf told in
     c .refusal2 .ensures
-    ∙ loop-stop _ (w .loop .at) (w .before .before .args .count) (w .loop .j) (w .loop .net) _ (w .loop .inv .4) (c .before .before .before .before .before .before .before .before .before .loop-test .taken) _
-    (line-stops _ (w .loop .at) (w .loop .j) (w .loop .net) _ five _ (c .before .before .before .add-line .ensures) (c .before .if1 .taken))
+    ∙ loop-stop _ (w .loop .at) (w .before .before .args .count) (w .loop .j) (w .loop .net) _ (w .loop .inv .4) (turn .loop-test .taken) _
+    (line-stops _ (w .loop .at) (w .loop .j) (w .loop .net) _ (five decoded) (refused .refusal-of .result) (sym (decoded .decode-line .ensures) ∙ told ∙ ap Refused (sym number)))
+
+with-entry-requires : tie.Need-with-entry-requires Inv-loop μ-loop
+with-entry-requires c κs =
+    let turn = in-loop (line-read (allowed c)) in
+    let w = turn .before in
+    let n = counts-facts _ _ _ (w .loop .inv .3 .counts) in
+    entry-place (w .loop .net) (w .loop .j) _ (omega (arith, turn .loop-test .taken)) (n .vertices) (n .edges) _ (entry c)
 
 add-j : tie.Need-add-j Inv-loop μ-loop
 add-j c = search needs
@@ -104,18 +148,18 @@ loop-less c = search needs
 
 loop-again : tie.Need-loop-again Inv-loop μ-loop
 loop-again c =
-    let w = c .before .before .before .before .before .before .before .before .before .before in
-    let five = sym (c .before .before .before .before .before .before .before .read-line .ensures) ∙ c .before .before .before .before .before .line .given .1 in
-    let zero = c .before .if1 .left in
-    let a = c .before .before .before .add-line in
-    let on = line-goes-on _ (w .loop .at) (w .loop .j) (w .loop .net) _ five _ (a .ensures) zero in
-    let more = c .before .before .before .before .before .before .before .before .before .loop-test .taken in (
+    let decoded = allowed (c .before) in
+    let turn = in-loop (line-read decoded) in
+    let w = turn .before in
+    let on = line-goes-on _ (w .loop .at) (w .loop .j) (w .loop .net) _ (five decoded) _ (entry (c .before)) in
+    let more = turn .loop-test .taken in
+    rw (c .with-entry .ensures) (
       omega arith,
       omega arith,
       w .loop .inv .2 ∙ sym (counts-kept (w .loop .net) (w .loop .j) (w .loop .inv .3) _ _ on),
       line-added (w .loop .net) (w .loop .j) (w .loop .inv .3) _ _ (omega (arith, w .loop .inv .2)) on,
       loop-next _ (w .loop .at) (w .before .before .args .count) (w .loop .j) (w .loop .net) _ (w .loop .inv .4) more _
-          (line-steps _ (w .loop .at) (w .loop .j) (w .loop .net) _ five _ (a .ensures) zero),
+          (line-steps _ (w .loop .at) (w .loop .j) (w .loop .net) _ (five decoded) _ (entry (c .before))),
     )
 
 concluded-requires : tie.Need-concluded-requires Inv-loop μ-loop
@@ -144,11 +188,15 @@ read-lines-spec =
     cast-refusal
     refusal-requires
     returns
-    add-line-requires
+    decode-line-requires
+    enum-known-decoded
+    enum-told-2
+    refusal-of-requires
     add-refusal-2
     cast-refusal-2
     refusal-requires-2
     returns-2
+    with-entry-requires
     add-j
     loop-less
     loop-again
