@@ -19,7 +19,7 @@ run-none : (verdict read : Answer) (h : ℕ) (text : List ℕ) (b : Bool) → go
 run-none verdict read h text true e = rw e
 run-none verdict read h text false e = refl
 
-no-jobs : (sheet : List ℕ) → goesOn (judgedOf sheet .answer .number) ≡ false → (n : ℕ) (lines : List ℕ) → jobsText sheet n lines ≡ []
+pub no-jobs : (sheet : List ℕ) → goesOn (judgedOf sheet .answer .number) ≡ false → (n : ℕ) (lines : List ℕ) → jobsText sheet n lines ≡ []
 unfolding judgedOf jobsText netText
 no-jobs sheet e n lines = run-none _ _ _ _ (eqb (readSheet sheet .answer .number) 0) e
 

@@ -5,6 +5,7 @@ pub mod JobsText
 pub mod Pieces
 pub mod Placed
 pub mod FirstLine
+pub mod ProgramLaws
 pub mod PieceSteps
 pub mod Characters
 pub mod Stored

@@ -1,4 +1,4 @@
--- The lines of jobs after other jobs are the lines of the first and then those of the others; so the pieces in turn are the whole output.
+-- The lines of jobs after other jobs are the lines of the first and then those of the others.
 use Prim.Native.Nat.{ℕ, zero, suc, _+_, _-_, _*_, _≤_, min}
 use native.Mathlib.Nat.{zero-mul, suc-mul, zero-add, add-zero, suc-add, add-suc, add-mul, min-eq-left, min-eq-right}
 use native.Mathlib.Omega.{arith}
@@ -19,12 +19,9 @@ use Rattle.settlements.proofs.BatchLaws.{length-pieces}
 use Rattle.settlements.proofs.Parts.{drop-take}
 use Rattle.settlements.proofs.PieceLaws.{jobsOf}
 use Rattle.settlements.proofs.RunLaws.{run-append, count-whole, count-append, pieces-append}
-use Rattle.output.specs.declared.Written.the-variants.{Bytes}
-use Rattle.output.specs.Limits.{mostJobs, pieceJobs, pieceBytes}
+use Rattle.output.specs.Limits.{mostJobs}
 use Rattle.output.specs.Text.{jobText, jobTexts}
 use Rattle.output.specs.Output.{openingText, jobsText, outputOf}
-use Rattle.output.specs.Calls.{put, readLines, pieceOf}
-use Rattle.output.specs.Pieces.{pieceText, pieceTexts, pieceCount}
 use Rattle.output.proofs.JobsText.{jobsRun, run-results, run-answers, printed, by-prints}
 
 -- ---- one text after another
@@ -102,60 +99,12 @@ jobs-split sheet n m lines =
     sym (jobs-append sheet n m (take (m * lineWidth) lines) (drop (m * lineWidth) lines) (length-take-le (m * lineWidth) lines enough))
     ∙ ap (jobsText sheet n) (take-append-drop (m * lineWidth) lines))
 
--- ---- pieces of any size
-
-take-min : (a b : ℕ) (l : List ℕ) → take (a * lineWidth) (take (b * lineWidth) l) ≡ take (min a b * lineWidth) l
+-- the first of the first
+pub take-min : (a b : ℕ) (l : List ℕ) → take (a * lineWidth) (take (b * lineWidth) l) ≡ take (min a b * lineWidth) l
 take-min a b l =
     by-test (ltb a b)
     (λ e. let less = ltb-true a b e in rw (min-eq-left {n = a} {m = b} (omega arith)) (take-take (a * lineWidth) (b * lineWidth) l (omega arith)))
     (λ e. let more = ltb-false a b e in rw (min-eq-right {n = b} {m = a} more) (take-all (a * lineWidth) (take (b * lineWidth) l) (rw length-take (omega arith))))
-
-module _ (sheet jobs : List ℕ) (size last : ℕ) where
-  -- of the jobs from job n on, those up to the last
-  abbrev left : ℕ → List ℕ
-  left n = take ((suc last - n) * lineWidth) (drop ((n - 1) * lineWidth) jobs)
-
-  after : (n : ℕ) → 1 ≤ n → drop (size * lineWidth) (left n) ≡ left (n + size)
-  after n h =
-      let lines : (suc last - n) * lineWidth - size * lineWidth ≡ (suc last - (n + size)) * lineWidth = omega arith in
-      let place : (n - 1) * lineWidth + size * lineWidth ≡ (n + size - 1) * lineWidth = omega arith in
-      rw (drop-take (size * lineWidth), drop-drop (size * lineWidth), lines, place)
-
-  -- a piece and the jobs after it
-  piece-next : (n : ℕ) → 1 ≤ n
-      → jobsText sheet n (take (min size (suc last - n) * lineWidth) (drop ((n - 1) * lineWidth) jobs)) ++ jobsText sheet (n + size) (left (n + size)) ≡ jobsText sheet n (left n)
-  piece-next n h =
-      rw (← take-min size (suc last - n) (drop ((n - 1) * lineWidth) jobs), ← after n h) (jobs-split sheet n size (left n))
-
--- ---- the pieces of the program
-
-pieces-left : (sheet jobs : List ℕ) (count n : ℕ) → 1 ≤ n → suc mostJobs ≤ n + count * pieceJobs
-    → pieceTexts sheet count n jobs ≡ jobsText sheet n (left sheet jobs pieceJobs mostJobs n)
-unfolding pieceTexts pieceText readLines
-pieces-left sheet jobs zero n h enough =
-    let past : suc mostJobs - n ≡ 0 = omega arith in
-    rw past (sym (jobs-none sheet n))
-pieces-left sheet jobs (suc count) n h enough =
-    ap (λ (l : List ℕ). pieceText sheet n jobs ++ l) (pieces-left sheet jobs count (n + pieceJobs) (omega arith) (omega arith))
-    ∙ piece-next sheet jobs pieceJobs mostJobs n h
-
--- THE WHOLE OUTPUT: the first line and so many pieces, from job 1 on, as reach the last job; more of them add nothing
-pub pieces-whole : (sheet jobs : List ℕ) (count : ℕ) → mostJobs ≤ count * pieceJobs → openingText sheet ++ pieceTexts sheet count 1 jobs ≡ outputOf sheet jobs
-unfolding outputOf
-pieces-whole sheet jobs count enough = ap (λ (l : List ℕ). openingText sheet ++ l) (pieces-left sheet jobs count 1 (omega arith) (omega arith))
-
-pub program-pieces : (sheet jobs : List ℕ) → openingText sheet ++ pieceTexts sheet pieceCount 1 jobs ≡ outputOf sheet jobs
-program-pieces sheet jobs = pieces-whole sheet jobs pieceCount (omega arith)
-
--- a piece that begins past the last of the jobs is empty: the program may stop there
-pub piece-none : (sheet jobs : List ℕ) (n : ℕ) → length jobs ≤ (n - 1) * lineWidth → pieceText sheet n jobs ≡ []
-unfolding pieceText readLines
-piece-none sheet jobs n past = rw (drop-of-length-le jobs {i = (n - 1) * lineWidth} past, take-nil) (jobs-none sheet n)
-
--- the call for a piece, handed the bytes from its first job on, writes that piece's text
-pub piece-call : (sheet jobs : List ℕ) (n : ℕ) (out : List ℕ) → pieceOf sheet n (drop ((n - 1) * lineWidth) jobs) out ≡ put Bytes pieceBytes (pieceText sheet n jobs) out
-unfolding pieceOf pieceText
-piece-call sheet jobs n out = refl
 
 -- jobs past the last that is read change nothing
 pub jobs-unread : (sheet jobs : List ℕ) → outputOf sheet (take (mostJobs * lineWidth) jobs) ≡ outputOf sheet jobs

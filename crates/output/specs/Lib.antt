@@ -2,6 +2,6 @@ pub mod Limits
 pub mod Text
 pub mod Output
 pub mod Calls
-pub mod Pieces
+pub mod Program
 pub mod Printed
 pub mod ForC

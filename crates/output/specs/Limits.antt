@@ -1,7 +1,7 @@
 -- Limits and bytes of the program's output, written once.
 use Prim.Native.Nat.{ℕ, _+_, _*_}
 use Rattle.net.specs.Limits.{mostKeyNodes}
-use Rattle.sheet.specs.Limits.{fieldWidth}
+use Rattle.sheet.specs.Limits.{fieldWidth, lineWidth}
 
 -- jobs past this one stay unread
 abbrev pub mostJobs : ℕ
@@ -10,6 +10,10 @@ mostJobs = 9999
 -- jobs that one call takes
 abbrev pub pieceJobs : ℕ
 pieceJobs = 3333
+
+-- the bytes of their lines
+abbrev pub pieceLines : ℕ
+pieceLines = pieceJobs * lineWidth
 
 -- the first line: four fields and its end
 abbrev pub openingBytes : ℕ

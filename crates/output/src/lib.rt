@@ -10,6 +10,12 @@ pub enum Written {
     Last(u32),
 }
 
+// What the program does next: the piece that begins with this job, or nothing more.
+pub enum Next {
+    Piece(u32),
+    End,
+}
+
 // What a sheet is judged to be: the reader's answer or the verdict, and h.
 pub struct Judged {
     pub answer: Answer,
@@ -25,6 +31,9 @@ impl Report {
 
     // Jobs that one call takes.
     pub const PIECE_JOBS: usize = 3333;
+
+    // The lines of those jobs.
+    pub const PIECE_LINES: usize = Report::PIECE_JOBS * Sheet::LINE_WIDTH;
 
     // What each line opens with.
     pub const FOUR_FIELDS: usize = 4 * Sheet::FIELD_WIDTH;
