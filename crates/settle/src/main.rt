@@ -1,19 +1,19 @@
 //! The program: reads the files `net` and `jobs` of the folder it is run in, and writes a first line for the net and a line for each job.
-//! What it writes is made by the crates `report_opening` and `report_pieces`; here is only the reading and the writing.
+//! What it writes is made by the crates `report_opening` and `report_pieces`, and what it does next is decided in `report_turns`; here is only the reading
+//! and the writing.
+
+mod input;
 
 ghost use mathlib.Core.Path.{_≡_};
 ghost use lib.ListN.{length};
-ghost use Rattle.io.specs.Counts.{Counts};
+ghost use Rattle.output.specs.Program.{Onward};
 use libc::STDOUT_FILENO;
+use output::Next;
 use output::Report;
-use output::Written;
 use sheet::Sheet;
 
 // One byte more than a sheet may have, so that a longer file is still refused for its length.
 const SHEET_BYTES: usize = Sheet::MOST_BYTES + 1;
-
-// The lines of the jobs that one call takes.
-const LINES_BYTES: usize = Report::PIECE_JOBS * Sheet::LINE_WIDTH;
 
 // The buffers. Each clause tells the length, which lending a part needs.
 fn sheet_buffer() -> [u8; SHEET_BYTES]
@@ -22,10 +22,10 @@ fn sheet_buffer() -> [u8; SHEET_BYTES]
     [0; SHEET_BYTES]
 }
 
-fn lines_buffer() -> [u8; LINES_BYTES]
-    ensures { λ r. do ⌜ (← ⟦LINES_BYTES⟧ .entry) ≡ length r ⌝ }
+fn lines_buffer() -> [u8; Report::PIECE_LINES]
+    ensures { λ r. do ⌜ (← ⟦Report::PIECE_LINES⟧ .entry) ≡ length r ⌝ }
 {
-    [0; LINES_BYTES]
+    [0; Report::PIECE_LINES]
 }
 
 fn opening_buffer() -> [u8; Report::OPENING_BYTES]
@@ -40,36 +40,6 @@ fn piece_buffer() -> [u8; Report::PIECE_BYTES]
     [0; Report::PIECE_BYTES]
 }
 
-// How many bytes of a buffer a call wrote.
-fn written_bytes(written: Written, out: &[u8]) -> usize
-    ensures { λ r. ⌜ Counts r (now (out .entry)) ⌝ }
-{
-    match written {
-        Written::Bytes(n) => io::count(n as isize, out),
-        Written::Last(n) => io::count(n as isize, out),
-        Written::Short => io::count(0, out),
-    }
-}
-
-// Reads the start of a file. One that is missing or cannot be read has no bytes.
-fn read_file(name: &[u8], buffer: &mut [u8]) -> usize
-    ensures { λ r. ⌜ Counts r (now (buffer .exit)) ⌝ }
-{
-    let file = os::open_read(name);
-    let n = io::read_full(file, buffer);
-    libc::close(file);
-    n
-}
-
-// Is anything to follow what a call wrote?
-fn goes_on(written: Written) -> bool {
-    match written {
-        Written::Bytes(_) => true,
-        Written::Last(_) => false,
-        Written::Short => false,
-    }
-}
-
 // Writes a text, and says so on standard error where that fails.
 fn write_text(text: &[u8]) -> bool {
     let is_written = io::write_all(STDOUT_FILENO, text);
@@ -79,40 +49,47 @@ fn write_text(text: &[u8]) -> bool {
     is_written
 }
 
-// Writes the first line. Says whether the jobs are to be run.
-fn write_opening(sheet: &[u8]) -> bool {
+// Writes the first line.
+fn write_opening(sheet: &[u8]) -> Next {
     let mut out = opening_buffer();
     let written = report_opening::opening(sheet, &mut out);
-    let n = written_bytes(written, &out);
-    write_text(&out[..n]) && goes_on(written)
+    let is_written = write_text(report_turns::written_part(written, &out));
+    report_turns::after_opening(written, is_written)
 }
 
-// Reads the next lines of the jobs and writes the text of a piece. Says whether more lines may follow.
-fn write_piece(sheet: &[u8], jobs: i32, first: u32) -> bool {
+// Reads the lines of a piece of the jobs and writes its text.
+fn write_piece(sheet: &[u8], jobs: i32, first: u32) -> Next
+    ensures { λ r. ⌜ Onward first r ⌝ }
+{
     let mut lines = lines_buffer();
-    let size = io::read_full(jobs, &mut lines);
-    if size == 0 {
-        return false;
-    }
+    let size = input::read(jobs, b"settle: jobs", &mut lines);
     let mut out = piece_buffer();
     let written = report_pieces::piece(sheet, first, &lines[..size], &mut out);
-    let n = written_bytes(written, &out);
-    write_text(&out[..n]) && size == LINES_BYTES
+    let is_written = write_text(report_turns::written_part(written, &out));
+    report_turns::after_piece(first, size, is_written)
 }
 
-fn write_jobs(sheet: &[u8], jobs: i32) {
-    let mut first: u32 = 1;
-    while first <= Report::MOST_JOBS as u32 && write_piece(sheet, jobs, first) {
-        first += Report::PIECE_JOBS as u32;
+// Writes the text of the jobs, piece by piece.
+fn write_jobs(sheet: &[u8], jobs: i32, start: Next) {
+    let mut next = start;
+    loop {
+        let Next::Piece(first) = next else {
+            return;
+        };
+        next = write_piece(sheet, jobs, first);
     }
 }
 
 fn main() {
     let mut buffer = sheet_buffer();
-    let size = read_file(b"net", &mut buffer);
-    if write_opening(&buffer[..size]) {
-        let jobs = os::open_read(b"jobs");
-        write_jobs(&buffer[..size], jobs);
-        libc::close(jobs);
-    }
+    let net = input::open(b"net", b"settle: net");
+    let size = input::read(net, b"settle: net", &mut buffer);
+    libc::close(net);
+    let next = write_opening(&buffer[..size]);
+    let Next::Piece(_) = next else {
+        return;
+    };
+    let jobs = input::open(b"jobs", b"settle: jobs");
+    write_jobs(&buffer[..size], jobs, next);
+    libc::close(jobs);
 }

@@ -1,0 +1,10 @@
+-- For the code alone: what one read may answer.
+use Prim.Native.Nat.{ℕ, _≤_}
+use Rattle.settle.specs.declared.input.Got.{Got}
+use Rattle.settle.specs.declared.input.Got.the-variants.{Bytes, Interrupted, Failed}
+
+-- no more bytes than there is room for
+abbrev pub Within : ℕ → Got → Type 0
+Within room (Bytes n) = n ≤ room
+Within room Interrupted = Unit {0}
+Within room Failed = Unit {0}
