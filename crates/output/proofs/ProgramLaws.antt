@@ -13,6 +13,7 @@ use Rattle.sheet.specs.Limits.{lineWidth}
 use Rattle.settlements.proofs.Parts.{drop-take}
 use Rattle.output.specs.declared.Written.{Written}
 use Rattle.output.specs.declared.Written.the-variants.{Bytes, Last}
+use Rattle.output.specs.declared.Next.{Next}
 use Rattle.output.specs.declared.Next.the-variants.{Piece, End}
 use Rattle.output.specs.Limits.{mostJobs, pieceJobs, pieceLines, openingBytes, pieceBytes}
 use Rattle.output.specs.Output.{goesOn, judgedOf, openingText, jobsText, outputOf}
@@ -64,6 +65,15 @@ unfolding afterPiece
 onward written n size =
     cond-by (Onward n) (not written || ltb size pieceLines || ltb mostJobs (n + pieceJobs)) (λ _. tt)
     (λ e. let more = ltb-false mostJobs (n + pieceJobs) (or-false-iff (not written || ltb size pieceLines) _ .0 e .1) in (omega arith, more))
+
+-- so a measure of what is left falls from piece to piece: the jobs from the piece's first on, and one, so that there is less left at the end
+abbrev pub jobsLeft : Next → ℕ
+jobsLeft (Piece n) = suc (suc mostJobs - n)
+jobsLeft End = 0
+
+pub fewer-left : (n : ℕ) (next : Next) → Onward n next → jobsLeft next < jobsLeft (Piece n)
+fewer-left n (Piece m) h = omega arith
+fewer-left n End h = omega arith
 
 -- ---- from piece to piece
 

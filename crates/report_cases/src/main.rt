@@ -5,6 +5,7 @@ ghost use Prim.Native.Nat.{_≤_, _<_};
 ghost use mathlib.Core.Path.{_≡_};
 ghost use lib.ListN.{length};
 ghost use Rattle.io.specs.Counts.{Counts};
+ghost use Rattle.output.specs.Program.{Onward};
 use cases::Case;
 use cases::Input;
 use cases::data_of;
@@ -12,12 +13,10 @@ use cases::large_at;
 use cases::next_case;
 use libc::STDIN_FILENO;
 use libc::STDOUT_FILENO;
+use output::Next;
 use output::Report;
 use output::Written;
 use sheet::Sheet;
-
-// The lines of the jobs that one call takes.
-const LINES_BYTES: usize = Report::PIECE_JOBS * Sheet::LINE_WIDTH;
 
 // The buffers that calls are lent.
 struct Lent;
@@ -52,17 +51,6 @@ fn jobs_buffer() -> [u8; Lent::MOST_JOBS]
     [0; Lent::MOST_JOBS]
 }
 
-// How many bytes of a buffer a call wrote.
-fn written_bytes(written: Written, out: &[u8]) -> usize
-    ensures { λ r. ⌜ Counts r (now (out .entry)) ⌝ }
-{
-    match written {
-        Written::Bytes(n) => io::count(n as isize, out),
-        Written::Last(n) => io::count(n as isize, out),
-        Written::Short => io::count(0, out),
-    }
-}
-
 // The size of the first line of a text, its end included.
 fn line_size(text: &[u8]) -> usize
     ensures { λ r. ⌜ Counts r (now (text .entry)) ⌝ }
@@ -91,53 +79,58 @@ fn print_ends(text: &[u8]) {
 fn print_opening(sheet: &[u8]) {
     let mut out = text_buffer();
     let written = report_opening::opening(sheet, &mut out);
-    let n = written_bytes(written, &out);
-    io::write_all(STDOUT_FILENO, &out[..n]);
+    io::write_all(STDOUT_FILENO, report_turns::written_part(written, &out));
 }
 
-// The lines that come after so many jobs: those of a piece, or all that are left.
-fn lines_after(jobs: &[u8], done: usize) -> &[u8]
-    requires { do ⌜ done ≤ (← ⟦Report::MOST_JOBS⟧) ⌝ }
-{
+// The lines of the piece that begins with this job, counted from 1: as many as a piece has, or all that are left.
+fn lines_from(jobs: &[u8], first: u32) -> &[u8] {
     let size = jobs.len();
-    let at = done * Sheet::LINE_WIDTH;
+    let before = first as usize;
+    if before == 0 {
+        return &jobs[0..0];
+    }
+    let at = (before - 1) * Sheet::LINE_WIDTH;
     if size < at {
         return &jobs[0..0];
     }
-    let end = at + LINES_BYTES;
+    let end = at + Report::PIECE_LINES;
     if size < end {
         return &jobs[at..size];
     }
     &jobs[at..end]
 }
 
-// Prints the text of the piece that comes after so many jobs, whole or its ends. Says whether more lines may follow, as the program does.
-fn print_piece<'a>(sheet: &'a [u8], jobs: &'a [u8], done: usize, whole: bool) -> bool
-    requires { do ⌜ done ≤ (← ⟦Report::MOST_JOBS⟧) ⌝ }
-{
-    let lines = lines_after(jobs, done);
-    if lines.len() == 0 {
-        return false;
-    }
-    let mut out = text_buffer();
-    let written = report_pieces::piece(sheet, (done + 1) as u32, lines, &mut out);
-    let n = written_bytes(written, &out);
-    if n == 0 {
-        return false;
+// Prints the text of a piece, whole or its ends; nothing where it has none.
+fn print_text(text: &[u8], whole: bool) {
+    if text.len() == 0 {
+        return;
     }
     if whole {
-        io::write_all(STDOUT_FILENO, &out[..n]);
+        io::write_all(STDOUT_FILENO, text);
     } else {
-        print_ends(&out[..n]);
+        print_ends(text);
     }
-    lines.len() == LINES_BYTES
+}
+
+// Prints the text of the piece that begins with this job, and says what comes next, as the program does.
+fn print_piece<'a>(sheet: &'a [u8], jobs: &'a [u8], first: u32, whole: bool) -> Next
+    ensures { λ r. ⌜ Onward first r ⌝ }
+{
+    let lines = lines_from(jobs, first);
+    let mut out = text_buffer();
+    let written = report_pieces::piece(sheet, first, lines, &mut out);
+    print_text(report_turns::written_part(written, &out), whole);
+    report_turns::after_piece(first, lines.len(), true)
 }
 
 // The lines of the jobs, piece by piece.
 fn print_pieces<'a>(sheet: &'a [u8], jobs: &'a [u8], whole: bool) {
-    let mut done: usize = 0;
-    while done < Report::MOST_JOBS && print_piece(sheet, jobs, done, whole) {
-        done += Report::PIECE_JOBS;
+    let mut next = Next::Piece(1);
+    loop {
+        let Next::Piece(first) = next else {
+            return;
+        };
+        next = print_piece(sheet, jobs, first, whole);
     }
 }
 
@@ -191,8 +184,7 @@ fn untouched_bytes(out: &[u8]) -> u64 {
 // What a call wrote to a lent buffer, how many bytes it says that it wrote and whether they are the last, or that the buffer is short, and how many bytes are
 // untouched.
 fn print_lent(written: Written, out: &[u8]) {
-    let n = written_bytes(written, out);
-    io::write_all(STDOUT_FILENO, &out[..n]);
+    io::write_all(STDOUT_FILENO, report_turns::written_part(written, out));
     match written {
         Written::Bytes(count) => {
             io::print_decimal(STDOUT_FILENO, count as u64);

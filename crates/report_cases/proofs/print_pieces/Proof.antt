@@ -1,38 +1,48 @@
--- Each turn moves on by a piece towards the last job. Nothing has to hold from turn to turn.
-use Prim.Native.Nat.{_-_}
-use native.Mathlib.Omega.{arith}
+-- `print_pieces` ends: each piece begins later than the one before it, and none past the last job. Nothing has to hold from turn to turn.
 use borrow.Author.Needs.{needs}
-use Rattle.output.specs.Limits.{mostJobs}
+use Rattle.output.proofs.ProgramLaws.{jobsLeft, fewer-left}
 use Rattle.report_cases.proofs.print_pieces.Statement.{statement}
 use Rattle.report_cases.proofs.print_pieces.Tie as tie
 
 abbrev Inv-loop : tie.InvT-loop
-Inv-loop sheet jobs whole done₀ done = Unit {0}
+Inv-loop sheet jobs whole next₀ next = Unit {0}
 
 abbrev μ-loop : tie.MeasureT-loop
-μ-loop sheet jobs whole done₀ done = mostJobs - done
+μ-loop sheet jobs whole next₀ next = jobsLeft next
 
 loop-holds : tie.Need-loop-holds Inv-loop μ-loop
 loop-holds c = tt
 
-print-piece-requires : tie.Need-print-piece-requires Inv-loop μ-loop
-print-piece-requires c κs = search needs
+enum-known-next : tie.Need-enum-known-next Inv-loop μ-loop
+enum-known-next c = search needs
 
-add-done : tie.Need-add-done Inv-loop μ-loop
-add-done c = search needs
-
-loop-less : tie.Need-loop-less Inv-loop μ-loop
-loop-less c = omega arith
-
-loop-again : tie.Need-loop-again Inv-loop μ-loop
-loop-again c = tt
+enum-told : tie.Need-enum-told Inv-loop μ-loop
+enum-told c = search needs
 
 returns : tie.Need-returns Inv-loop μ-loop
 returns c = tt
 
-returns-2 : tie.Need-returns-2 Inv-loop μ-loop
-returns-2 c = tt
+print-piece-requires : tie.Need-print-piece-requires Inv-loop μ-loop
+print-piece-requires c κs = search needs
+
+loop-less : tie.Need-loop-less Inv-loop μ-loop
+loop-less c =
+    let piece = c .before .before in
+    rw (piece .next .given .1) (fewer-left _ (c .print-piece .result) (c .print-piece .ensures))
+
+loop-again : tie.Need-loop-again Inv-loop μ-loop
+loop-again c = tt
 
 pub print-pieces-spec : {M : Type 1} → statement M
 print-pieces-spec =
-    tie.close (tie.spec Inv-loop μ-loop loop-holds print-piece-requires add-done loop-less loop-again returns returns-2)
+    tie.close
+    (tie.spec
+    Inv-loop
+    μ-loop
+    loop-holds
+    enum-known-next
+    enum-told
+    returns
+    print-piece-requires
+    loop-less
+    loop-again)
