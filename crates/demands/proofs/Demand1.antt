@@ -11,16 +11,17 @@ use Rattle.net.specs.Network.{isInputState, isKeyState}
 use Rattle.sheet.specs.declared.JobLine.{JobLine}
 use Rattle.sheet.specs.Rows.{answer, Row, NoRow}
 use Rattle.sheet.specs.Record.{accepted}
-use Rattle.sheet.specs.Line.{lineNumber, sheetLine}
+use Rattle.sheet.specs.Line.{FullLine, lineNumber, sheetLine}
 use Rattle.sheet.specs.Reading.{readSheet}
 use Rattle.sheet.specs.Valid.{valid}
-use Rattle.sheet.specs.Job.{jobOf, jobNumber}
+use Rattle.sheet.specs.Outcome.{Outcome}
+use Rattle.sheet.specs.Job.{JobBytes, jobOf, jobNumber}
 use Rattle.sheet.proofs.RowLaws.{by-rows-fit}
 use Rattle.sheet.proofs.ReadLaws.{valid-iff-accepted}
 use Rattle.sheet.proofs.SheetRowLaws.{sheet-zero, sheet-number, sheet-refused, sheet-accepted}
-use Rattle.sheet.proofs.Outcome.{Outcome, outcome}
-use Rattle.sheet.proofs.LineLaws.{FullLine, line-found, line-missing, line-empty}
-use Rattle.sheet.proofs.JobLaws.{JobBytes, job-number as line-refused}
+use Rattle.sheet.proofs.Outcome.{outcome}
+use Rattle.sheet.proofs.LineLaws.{line-found, line-missing, line-empty}
+use Rattle.sheet.proofs.JobLaws.{job-number as line-refused}
 use Rattle.soundness.specs.declared.Excited.{Excited}
 use Rattle.soundness.specs.declared.Excited.the-variants.{Value, Refused as NoValue}
 use Rattle.soundness.specs.Excited.{excitationRows, excitedOf, excitedNumber, excitedPlace}
@@ -120,7 +121,7 @@ module _ (N : Net) (jobs results answers : List ℕ) where
   }
 
   -- job n, from 0, of a batch that is not refused as a whole
-  pub demand1-job : (n : ℕ) → n < count → batchOf N jobs results answers .answer .number ≡ 0 → JobAnswers N jobs results n (batchOf N jobs results answers)
+  pub demand1-job : (n : ℕ) → n < jobCount jobs → batchOf N jobs results answers .answer .number ≡ 0 → JobAnswers N jobs results n (batchOf N jobs results answers)
   demand1-job n h zero = subst (JobAnswers N jobs results n) (sym (runs fit)) (record {
     answered = rw three (job-answers N job own);
     counts = λ m p f. three ∙ ap answerBytes (job-untouched N job own m p f);

@@ -13,7 +13,7 @@ use Rattle.net.specs.declared.Net.{Net}
 use Rattle.net.specs.Graph.{isStorage, keyCount}
 use Rattle.net.specs.Excitation.{excitation}
 use Rattle.net.specs.Network.{network, Clean}
-use Rattle.net.specs.WellFormed.{C1, C2, WellFormed}
+use Rattle.net.specs.WellFormed.{C1, C2, WellFormed, LowestC1, LowestC3}
 use Rattle.net.specs.Known.{Known}
 use Rattle.net.specs.Ternary.{settled}
 use Rattle.net.proofs.Connected.{excitation-0, excitation-1, excitation-2, excitation-3}
@@ -28,7 +28,7 @@ use Rattle.soundness.specs.declared.Excited.the-variants.{Value}
 use Rattle.soundness.specs.Excited.{excitedOf}
 use Rattle.soundness.specs.Verdict.{verdictOf}
 use Rattle.soundness.proofs.ExcitedLaws.{excited-accepts}
-use Rattle.soundness.proofs.VerdictLaws.{LowestC1, LowestC3, verdict-0, verdict-31, verdict-32, verdict-33}
+use Rattle.soundness.proofs.VerdictLaws.{verdict-0, verdict-31, verdict-32, verdict-33}
 use Rattle.settlements.specs.Settle.{written, settleOf}
 use Rattle.settlements.specs.Batch.{Batch}
 use Rattle.settlements.proofs.SettleLaws.{settle-accepts}

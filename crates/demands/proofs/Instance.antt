@@ -4,33 +4,25 @@
 use Prim.Native.Nat.{ℕ, zero, suc, _≤_, _<_}
 use native.Mathlib.Omega.{arith}
 use mathlib.Core.Path.{_≡_, refl}
-use mathlib.Core.List.{List, [], _∷_, _++_}
+use mathlib.Core.List.{List, [], _∷_}
 use lib.Dec.{lit<}
-use lib.ListN.{replicate}
 use Rattle.ternary.specs.Bits.{bit}
 use Rattle.ternary.specs.Signal.{X, at}
 use Rattle.ternary.specs.Run.{Step}
-use Rattle.net.specs.declared.Net.{Net}
 use Rattle.net.specs.Graph.{keyCount}
 use Rattle.sheet.specs.Record.{accepted}
 use Rattle.sheet.specs.Rows.{answer}
 use Rattle.sheet.specs.Reading.{readSheet}
-use Rattle.sheet.specs.Text.{bytes}
 use Rattle.settlements.specs.Settle.{settling}
-use Rattle.settlements.specs.Batch.{Batch, batchOf}
+use Rattle.settlements.specs.Batch.{batchOf}
 use Rattle.bench_examples.specs.Nets.{worked, threeNands}
 use Rattle.demands.specs.Demand3.{runOf}
+use Rattle.demands.specs.Kept.{Kept, JobKept}
+use Rattle.demands.specs.Instance.{lent, nands, workedNet, jobs, batch}
 use Rattle.bench_examples.proofs.Opened.{opened}
-use Rattle.demands.proofs.Kept.{Kept, JobKept, settle-kept, job-kept, settles-at}
-
--- what a buffer holds before the call: n bytes that no pass writes
-abbrev lent : ℕ → List ℕ
-lent n = replicate n 9
+use Rattle.demands.proofs.Kept.{settle-kept, job-kept, settles-at}
 
 -- ---- three NANDs, from 11 to 00, from 010; one buffer is longer than the net needs, the other just long enough
-
-pub nands : Net
-nands = readSheet threeNands .net
 
 nands-read : readSheet threeNands ≡ accepted nands
 unfolding opened nands
@@ -56,9 +48,6 @@ nands-settle steps enough k h = settles-at nands-kept k (rw three-keys h) (binar
 
 -- ---- document 01's worked net
 
-pub workedNet : Net
-workedNet = readSheet worked .net
-
 worked-read : readSheet worked ≡ accepted workedNet
 unfolding opened workedNet
 worked-read = refl
@@ -69,18 +58,6 @@ unfolding opened workedNet
 worked-kept = settle-kept worked worked-read 0 1 1 (lent 2) (lent 1) refl refl
 
 -- its four jobs in one batch, with result bytes for just as many and answer bytes for one more
-pub jobs : List ℕ
-jobs = bytes "   4   0   1   1   0\n" ++ bytes "   4   0   0   1   0\n" ++ bytes "   4   1   0   1   0\n" ++ bytes "   4   2   0   1   0\n"
-
-abbrev batch : Batch
-batch = record {
-  answer = answer 0 0;
-  buffers = record {
-    results = X ∷ X ∷ 1 ∷ 1 ∷ 9 ∷ 9 ∷ 9 ∷ 9 ∷ [];
-    answers = 0 ∷ 1 ∷ 0 ∷ 0 ∷ 0 ∷ 0 ∷ 44 ∷ 0 ∷ 0 ∷ 42 ∷ 0 ∷ 0 ∷ 9 ∷ 9 ∷ 9 ∷ [];
-  };
-}
-
 pub batch-runs : batchOf workedNet jobs (lent 8) (lent 15) ≡ batch
 unfolding opened workedNet jobs
 batch-runs = refl

@@ -23,24 +23,12 @@ use Rattle.settlements.specs.Batch.{jobCount, Batch, jobRows, batchOf}
 use Rattle.settlements.proofs.SettleLaws.{Startable, settle-zero}
 use Rattle.settlements.proofs.BatchLaws.{batch-zero}
 use Rattle.demands.specs.Demand1.{lineOf, answerOf, jobLineRows}
-use Rattle.demands.specs.Demand2.{SettlePasses, JobPasses}
-use Rattle.demands.specs.Demand3.{Settles, runOf, SettlePromise, JobPromise}
+use Rattle.demands.specs.Demand3.{Settles, runOf}
+use Rattle.demands.specs.Kept.{Kept, JobKept}
 use Rattle.demands.proofs.Fit.{job-fit, settle-fit, batch-fit}
 use Rattle.demands.proofs.Demand1.{demand1-job}
 use Rattle.demands.proofs.Demand2.{demand2-settle, demand2-job}
 use Rattle.demands.proofs.Demand3.{demand3-settle, demand3-job}
-
--- all that is promised of one settling on the net of a sheet
-pub record Kept (sheet : List ℕ) (N : Net) (A B q : ℕ) (R T : List ℕ) (S : Settlement) : Type 0 where
-  pub settles : Settles sheet N A B q
-  pub promise : SettlePromise N A B q R T S
-  pub passes : SettlePasses N A B q S
-
--- and of job n, from 0, of a batch
-pub record JobKept (sheet : List ℕ) (N : Net) (A B q n : ℕ) (S : Batch) : Type 0 where
-  pub settles : Settles sheet N A B q
-  pub promise : JobPromise N A B q n S
-  pub passes : JobPasses N A B q n S
 
 module _ (sheet : List ℕ) {N : Net} (reads : readSheet sheet ≡ accepted N) where
   settles-of : (A B q : ℕ) → C1 N → Startable N A B q → Settles sheet N A B q

@@ -20,16 +20,21 @@ use Rattle.sheet.specs.Rows.{answer, Row, answered, First}
 use Rattle.sheet.specs.Rows.First.{here, later}
 use Rattle.sheet.specs.Record.{accepted}
 use Rattle.sheet.specs.Reading.{readSheet}
+use Rattle.sheet.specs.Outcome.{Outcome}
+use Rattle.sheet.specs.Outcome.Outcome.{accept, refuse}
 use Rattle.sheet.specs.Job.{jobOf}
 use Rattle.sheet.specs.Valid.{valid}
 use Rattle.sheet.proofs.RowLaws.{RowsAnswer, nothing, found, rows-answer, by-rows-answer, when-some}
-use Rattle.sheet.proofs.Outcome.{Listed, Outcome, accept, refuse, outcome, accepted-at-zero, valid-at-zero}
+use Rattle.sheet.proofs.Outcome.{outcome, accepted-at-zero, valid-at-zero}
 use Rattle.settlements.specs.Batch.{jobCount, jobWidth, answerWidth, Batch, batchRows, batchOf}
 use Rattle.output.specs.ForC.{SheetBatch, sheetBatch, sheetBatchOf}
 use Rattle.demands.specs.Demand1.{lineOf, answerOf}
 use Rattle.demands.specs.Demand3.{Settles, JobPromise}
+use Rattle.demands.specs.Kept.{JobKept}
+use Rattle.demands.specs.Library.{BatchNumber}
+use Rattle.demands.specs.Library.BatchNumber.{fit, unread, refused}
 use Rattle.demands.proofs.Demand3.{demand3-job}
-use Rattle.demands.proofs.Kept.{JobKept, job-kept}
+use Rattle.demands.proofs.Kept.{job-kept}
 
 module _ (sheet jobs results answers : List ℕ) where
   on-net : {N : Net} → readSheet sheet ≡ accepted N → sheetBatchOf sheet jobs results answers ≡ sheetBatch (batchOf N jobs results answers) (keyCount N)
@@ -68,12 +73,6 @@ unfolding batchRows
 batch-row N count results answers v (here {p = p} e) = absurd (true≢false (sym v ∙ not-true _ (when-some _ p .0 e .0)))
 batch-row N count results answers v (later _ (here _)) = inl refl
 batch-row N count results answers v (later _ (later _ (here _))) = inr refl
-
--- 0, a number of the reader with a place that it can have, 31 or 45
-pub data BatchNumber : Answer → Type 0 where
-  fit : BatchNumber (answer 0 0)
-  unread : {n p : ℕ} → Listed n p → BatchNumber (answer n p)
-  refused : {n p : ℕ} → (n ≡ 31) ⊎ (n ≡ 45) → BatchNumber (answer n p)
 
 read-number : {r : Reading} → Outcome r → BatchNumber (r .answer)
 read-number (accept N) = fit

@@ -13,7 +13,7 @@ use Rattle.net.specs.declared.Net.{Net}
 use Rattle.net.specs.Graph.{isKey, isOutput, keyCount, keyIndex, keyVertex}
 use Rattle.net.specs.Excitation.{excitation, fights}
 use Rattle.net.specs.Network.{network, Clean, Stable, stable}
-use Rattle.net.specs.WellFormed.{C1, C2, C3, everyState, breaksC1, placeC1, testC2, breaksC3, placeC3}
+use Rattle.net.specs.WellFormed.{C1, C2, C3, BreaksC1, LowestC1, BreaksC3, LowestC3, everyState, breaksC1, placeC1, testC2, breaksC3, placeC3}
 use Rattle.ternary.proofs.Tests.{and-left, and-right, both, by-test, fails, not-and, not-both}
 use Rattle.ternary.proofs.BitLaws.{binary-iff}
 use Rattle.ternary.proofs.ListLaws.{all-at, all-of, all-false, least-none-iff, least-some-iff}
@@ -57,45 +57,37 @@ module _ (N : Net) where
 
   -- ---- C1
 
-  -- v is a key vertex that some clean state excites to 2 or 3
-  pub record BreaksC1 (v : ℕ) : Type 0 where
-    pub key : isKey N v ≡ true
-    pub input : ℕ
-    pub state : ℕ
-    pub clean : Clean N input state
-    pub excited : ¬ (excitation N input state v < 2)
-
-  pub breaks-c1-iff : (v : ℕ) → (breaksC1 N v ≡ true) ↔ BreaksC1 v
+  pub breaks-c1-iff : (v : ℕ) → (breaksC1 N v ≡ true) ↔ BreaksC1 N v
   unfolding breaksC1
   breaks-c1-iff v = (there, back)
     where
-      there : (isKey N v && not (everyState N (λ a q. ltb (excitation N a q v) 2))) ≡ true → BreaksC1 v
+      there : (isKey N v && not (everyState N (λ a q. ltb (excitation N a q v) 2))) ≡ true → BreaksC1 N v
       there e =
           let f = some-state-iff (λ a q. ltb (excitation N a q v) 2) .0 (and-right (isKey N v) _ e) in
           record { key = and-left (isKey N v) _ e; input = f .input; state = f .key; clean = f .clean; excited = λ h. not-both _ (lt-ltb (excitation N (f .input) (f .key) v) 2 h) (f .fails) }
 
-      back : BreaksC1 v → (isKey N v && not (everyState N (λ a q. ltb (excitation N a q v) 2))) ≡ true
+      back : BreaksC1 N v → (isKey N v && not (everyState N (λ a q. ltb (excitation N a q v) 2))) ≡ true
       back b = both (b .key) (some-state-iff (λ a q. ltb (excitation N a q v) 2) .1
           (record { input = b .input; key = b .state; clean = b .clean; fails = fails _ (λ t. b .excited (ltb-true (excitation N (b .input) (b .state) v) 2 t)) }))
 
-  breaks-c1-range : (v : ℕ) → BreaksC1 v → v < suc (N .«vertex_count»)
+  breaks-c1-range : (v : ℕ) → BreaksC1 N v → v < suc (N .«vertex_count»)
   breaks-c1-range v b = storage-range N v (key-storage N v (b .key))
 
   -- v is the lowest vertex that breaks C1
-  pub place-c1-some : (v : ℕ) → (placeC1 N ≡ some v) ↔ (BreaksC1 v × ((u : ℕ) → u < v → ¬ BreaksC1 u))
+  pub place-c1-some : (v : ℕ) → (placeC1 N ≡ some v) ↔ LowestC1 N v
   unfolding placeC1
-  place-c1-some = least-some-iff (breaksC1 N) BreaksC1 breaks-c1-iff (suc (N .«vertex_count»)) breaks-c1-range
+  place-c1-some = least-some-iff (breaksC1 N) (BreaksC1 N) breaks-c1-iff (suc (N .«vertex_count»)) breaks-c1-range
 
   pub place-c1-none : (placeC1 N ≡ none) ↔ C1 N
   unfolding placeC1
-  place-c1-none = Iff·trans (least-none-iff (breaksC1 N) BreaksC1 breaks-c1-iff (suc (N .«vertex_count»)) breaks-c1-range) (there, back)
+  place-c1-none = Iff·trans (least-none-iff (breaksC1 N) (BreaksC1 N) breaks-c1-iff (suc (N .«vertex_count»)) breaks-c1-range) (there, back)
     where
-      there : ((v : ℕ) → ¬ BreaksC1 v) → C1 N
+      there : ((v : ℕ) → ¬ BreaksC1 N v) → C1 N
       there f a q k ha hq hk = binary-iff (network N a q k) .0 (by-test (ltb (network N a q k) 2) (ltb-true (network N a q k) 2)
           (λ t. absurd (f (keyVertex N k)
           (record { key = key-at N k hk .key; input = a; state = q; clean = record { input = ha; key = hq }; excited = λ h. not-both _ (lt-ltb (network N a q k) 2 h) t }))))
 
-      back : C1 N → (v : ℕ) → ¬ BreaksC1 v
+      back : C1 N → (v : ℕ) → ¬ BreaksC1 N v
       back c v b =
           let r = index-at N v (b .key) in
           let h : network N (b .input) (b .state) (keyIndex N v) < 2 = binary-iff _ .1 (c (b .input) (b .state) (keyIndex N v) (b .clean .input) (b .clean .key) (r .below)) in
@@ -112,20 +104,11 @@ module _ (N : Net) where
 
   -- ---- C3
 
-  -- y is an output that some clean stable state excites to 2
-  pub record BreaksC3 (y : ℕ) : Type 0 where
-    pub output : isOutput N y ≡ true
-    pub input : ℕ
-    pub state : ℕ
-    pub clean : Clean N input state
-    pub stable : Stable N input state
-    pub excited : excitation N input state y ≡ 2
-
-  pub breaks-c3-iff : (y : ℕ) → (breaksC3 N y ≡ true) ↔ BreaksC3 y
+  pub breaks-c3-iff : (y : ℕ) → (breaksC3 N y ≡ true) ↔ BreaksC3 N y
   unfolding breaksC3
   breaks-c3-iff y = (there, back)
     where
-      there : (isOutput N y && not (everyState N (λ a q. not (stable N a q && eqb (excitation N a q y) 2)))) ≡ true → BreaksC3 y
+      there : (isOutput N y && not (everyState N (λ a q. not (stable N a q && eqb (excitation N a q y) 2)))) ≡ true → BreaksC3 N y
       there e =
           let f = some-state-iff (λ a q. not (stable N a q && eqb (excitation N a q y) 2)) .0 (and-right (isOutput N y) _ e) in
           let t : (stable N (f .input) (f .key) && eqb (excitation N (f .input) (f .key) y) 2) ≡ true = not-false _ (f .fails) in
@@ -138,20 +121,20 @@ module _ (N : Net) where
             excited = eqb-true (excitation N (f .input) (f .key) y) 2 (and-right (stable N (f .input) (f .key)) _ t);
           }
 
-      back : BreaksC3 y → (isOutput N y && not (everyState N (λ a q. not (stable N a q && eqb (excitation N a q y) 2)))) ≡ true
+      back : BreaksC3 N y → (isOutput N y && not (everyState N (λ a q. not (stable N a q && eqb (excitation N a q y) 2)))) ≡ true
       back b =
           let t = both (stable-iff (b .input) (b .state) .1 (b .stable)) (eq-eqb (excitation N (b .input) (b .state) y) 2 (b .excited)) in
           both (b .output) (some-state-iff (λ a q. not (stable N a q && eqb (excitation N a q y) 2)) .1
           (record { input = b .input; key = b .state; clean = b .clean; fails = rw t }))
 
   -- y is the lowest output that breaks C3
-  pub place-c3-some : (y : ℕ) → (placeC3 N ≡ some y) ↔ (BreaksC3 y × ((u : ℕ) → u < y → ¬ BreaksC3 u))
+  pub place-c3-some : (y : ℕ) → (placeC3 N ≡ some y) ↔ LowestC3 N y
   unfolding placeC3
-  place-c3-some = least-some-iff (breaksC3 N) BreaksC3 breaks-c3-iff (suc (N .«vertex_count»)) (λ y b. role-range N y 2 (b .output))
+  place-c3-some = least-some-iff (breaksC3 N) (BreaksC3 N) breaks-c3-iff (suc (N .«vertex_count»)) (λ y b. role-range N y 2 (b .output))
 
   pub place-c3-none : (placeC3 N ≡ none) ↔ C3 N
   unfolding placeC3
-  place-c3-none = Iff·trans (least-none-iff (breaksC3 N) BreaksC3 breaks-c3-iff (suc (N .«vertex_count»)) (λ y b. role-range N y 2 (b .output))) (
+  place-c3-none = Iff·trans (least-none-iff (breaksC3 N) (BreaksC3 N) breaks-c3-iff (suc (N .«vertex_count»)) (λ y b. role-range N y 2 (b .output))) (
     λ f a q c s y o e. f y (record { output = o; input = a; state = q; clean = c; stable = s; excited = e }),
     λ f y b. f (b .input) (b .state) (b .clean) (b .stable) y (b .output) (b .excited),
   )

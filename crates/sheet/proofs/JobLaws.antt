@@ -15,16 +15,9 @@ use Rattle.sheet.specs.Limits.{fieldWidth}
 use Rattle.sheet.specs.declared.Line.{Line}
 use Rattle.sheet.specs.declared.LineRead.the-variants.{Five, Refused as Unread}
 use Rattle.sheet.specs.Line.{line, writeLine, readLine, lineAnswer}
-use Rattle.sheet.specs.Job.{jobOf, jobNumber}
+use Rattle.sheet.specs.Job.{JobBytes, jobOf, jobNumber}
 use Rattle.sheet.proofs.LineLaws.{SmallLine, read-write-line, write-read-line}
 use Rattle.sheet.proofs.LineSteps.{five-of, unread-of}
-
--- b is the line of this job
-pub record JobBytes (b : List ℕ) (A B q : ℕ) : Type 0 where
-  pub written : writeLine (line 4 A B q 0) ≡ b
-  pub old : A < 10 ^ fieldWidth
-  pub new : B < 10 ^ fieldWidth
-  pub start : q < 10 ^ fieldWidth
 
 pub job-written : (A B q : ℕ) → A < 10 ^ fieldWidth → B < 10 ^ fieldWidth → q < 10 ^ fieldWidth → jobOf (writeLine (line 4 A B q 0)) ≡ Asked A B q
 unfolding jobOf

@@ -1,5 +1,5 @@
 -- Lines: reading one and writing one undo each other; and where one line of a sheet stands.
-use Prim.Native.Nat.{ℕ, suc, _-_, _*_, _^_, _≤_, _<_}
+use Prim.Native.Nat.{ℕ, suc, _-_, _*_, _^_, _<_}
 use native.Mathlib.Nat.{mul-zero, mul-suc}
 use native.Mathlib.Omega.{arith}
 use mathlib.Core.Path.{_≡_, refl, ap}
@@ -16,7 +16,7 @@ use Rattle.ternary.proofs.ListLaws.{same-true}
 use Rattle.sheet.specs.Limits.{fieldWidth, fieldCount, lineWidth, lineEnd}
 use Rattle.sheet.specs.Field.{writeField}
 use Rattle.sheet.specs.declared.Line.{Line}
-use Rattle.sheet.specs.Line.{line, writeLine, fieldAt, fiveFields, readLine, hasLine, sheetLine, lineNumber}
+use Rattle.sheet.specs.Line.{line, writeLine, fieldAt, fiveFields, readLine, FullLine, hasLine, sheetLine, lineNumber}
 use Rattle.sheet.proofs.FieldLaws.{read-write-field, write-read-field}
 
 -- every number fits its field
@@ -109,11 +109,6 @@ write-read-line b v =
     (λ _ e. absurd (true≢false (cc)))
 
 -- ---- one line of a sheet
-
--- the sheet has a full line of number n, the first being 1
-pub record FullLine (b : List ℕ) (n : ℕ) : Type 0 where
-  pub first : 1 ≤ n
-  pub room : lineWidth * n ≤ length b
 
 module _ (b : List ℕ) (n : ℕ) where
   pub has-line-iff : (hasLine b n ≡ true) ↔ FullLine b n

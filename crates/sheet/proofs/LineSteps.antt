@@ -17,8 +17,8 @@ use Rattle.sheet.specs.declared.Line.{Line}
 use Rattle.sheet.specs.declared.LineRead.the-variants.{Five, Refused as Unread}
 use Rattle.sheet.specs.Limits.{fieldWidth, fieldCount, lineWidth, lineEnd}
 use Rattle.sheet.specs.Field.{fieldAnswer}
-use Rattle.sheet.specs.Line.{line, fieldAt, fiveFields, readLine, lineAnswer, hasLine, sheetLine}
-use Rattle.sheet.proofs.LineLaws.{FullLine, line-bytes}
+use Rattle.sheet.specs.Line.{line, fieldAt, fiveFields, readLine, lineAnswer, FullLine, hasLine, sheetLine}
+use Rattle.sheet.proofs.LineLaws.{line-bytes}
 
 -- ---- the five numbers of a line
 

@@ -1,5 +1,5 @@
 -- Every sheet is accepted, or refused with the empty record, a number of document 01's table for sheets, and a place that this number can have.
-use Prim.Native.Nat.{ℕ, suc, _+_, _/_, _≤_, _<_}
+use Prim.Native.Nat.{ℕ, suc, _+_, _/_, _<_}
 use native.Mathlib.Omega.{arith}
 use mathlib.Core.Path.{_≡_, sym, ap, subst, _∙_}
 use mathlib.Core.Logic.{_⊎_, inl, inr}
@@ -9,18 +9,19 @@ use mathlib.Core.Option.{Option}
 use lib.Dec.{eqb}
 use lib.ListN.{length}
 use borrow.Author.Tests.{not-false}
-use Rattle.net.specs.declared.Net.{Net}
-use Rattle.net.specs.Limits.{mostVertices}
 use Rattle.sheet.specs.declared.Answer.{Answer}
 use Rattle.sheet.specs.declared.Reading.{Reading}
-use Rattle.sheet.specs.Limits.{lineWidth, mostLines}
+use Rattle.sheet.specs.Limits.{lineWidth}
 use Rattle.sheet.specs.Rows.{answer, row, whenAt, First}
 use Rattle.sheet.specs.Rows.First.{here, later}
-use Rattle.sheet.specs.Record.{refused, accepted}
+use Rattle.sheet.specs.Record.{accepted}
 use Rattle.sheet.specs.Graph.{graphRows}
 use Rattle.sheet.specs.Rules.{headerOk}
 use Rattle.sheet.specs.Reading.{vertexLineOk, edgeLineOk, sizeOk, readSheet}
 use Rattle.sheet.specs.SheetRows.{lineAt, isMissing, numbersOf, inTurn, header, vertexCount, edgeCount, netOf, vertexRows, edgeRows, sheetRows}
+use Rattle.sheet.specs.Outcome.{Listed, Outcome}
+use Rattle.sheet.specs.Outcome.Listed.{size, fields, header-line, lines, vertex-line, edge-line, partner, key-nodes, signals}
+use Rattle.sheet.specs.Outcome.Outcome.{accept, refuse}
 use Rattle.sheet.specs.Valid.{valid}
 use Rattle.sheet.proofs.RowLaws.{RowsAnswer, nothing, found, rows-answer, first-append, not-held, held-at}
 use Rattle.sheet.proofs.TurnLaws.{some-turn}
@@ -28,22 +29,6 @@ use Rattle.sheet.proofs.RuleLaws.{Counts, header-counts}
 use Rattle.sheet.proofs.GraphLaws.{partner-some, key-vertex, signal-vertex}
 use Rattle.sheet.proofs.SheetRowLaws.{sheet-zero, sheet-refused, sheet-accepted}
 use Rattle.sheet.proofs.ReadLaws.{read-valid}
-
--- the numbers that a sheet can be refused with, each with its places: a line from 1, or a vertex
-pub data Listed : ℕ → ℕ → Type 0 where
-  size : Listed 11 0
-  fields : (line : ℕ) → 1 ≤ line → line ≤ mostLines → Listed 12 line
-  header-line : Listed 13 1
-  lines : Listed 14 0
-  vertex-line : (line : ℕ) → 2 ≤ line → line ≤ mostLines → Listed 15 line
-  edge-line : (line : ℕ) → 2 ≤ line → line ≤ mostLines → Listed 16 line
-  partner : (line : ℕ) → 2 ≤ line → line ≤ mostLines → Listed 21 line
-  key-nodes : (y : ℕ) → 1 ≤ y → y ≤ mostVertices → Listed 22 y
-  signals : (y : ℕ) → 1 ≤ y → y ≤ mostVertices → Listed 23 y
-
-pub data Outcome : Reading → Type 0 where
-  accept : (N : Net) → Outcome (accepted N)
-  refuse : {number place : ℕ} → Listed number place → Outcome (refused (answer number place))
 
 -- ---- each row of a sheet is listed
 

@@ -11,6 +11,7 @@ pub mod Checked
 pub mod Reading
 pub mod Entries
 pub mod SheetRows
+pub mod Outcome
 pub mod Writing
 pub mod Valid
 pub mod Fitting

@@ -1,5 +1,5 @@
 -- A line: five fields, then the byte that ends it; and one line of a sheet by its number.
-use Prim.Native.Nat.{ℕ, _-_, _*_}
+use Prim.Native.Nat.{ℕ, _-_, _*_, _≤_}
 use mathlib.Core.Bool.{Bool, cond, _&&_}
 use mathlib.Core.List.{List, [], _∷_, _++_}
 use mathlib.Core.Option.{Option, none, some}
@@ -51,6 +51,11 @@ lineAnswer (some v) = Five v
 -- ---- the call for one line of a sheet
 
 -- the sheet has a full line of number n, the first being 1
+pub record FullLine (b : List ℕ) (n : ℕ) : Type 0 where
+  pub first : 1 ≤ n
+  pub room : lineWidth * n ≤ length b
+
+-- a test of it
 unfoldable pub hasLine : List ℕ → ℕ → Bool
 hasLine b n = leb 1 n && leb (lineWidth * n) (length b)
 

@@ -1,5 +1,5 @@
 -- The verdict: 0 exactly for a valid record whose net is well formed, else the number of the first condition broken, with the lowest offender.
-use Prim.Native.Nat.{ℕ, _≤_, _<_}
+use Prim.Native.Nat.{ℕ, _≤_}
 use native.Mathlib.Omega.{arith}
 use mathlib.Core.Path.{_≡_, refl, ap}
 use mathlib.Core.Bool.{Bool, true, false, not}
@@ -9,8 +9,8 @@ use mathlib.Core.Option.{Option, none, some}
 use borrow.Author.Tests.{not-true, not-false}
 use Rattle.ternary.proofs.Tests.{fails, not-both}
 use Rattle.net.specs.declared.Net.{Net}
-use Rattle.net.specs.WellFormed.{C1, C2, WellFormed, testC2}
-use Rattle.net.proofs.WellFormed.{BreaksC1, BreaksC3, place-c1-none, place-c1-some, c2-iff, place-c3-none, place-c3-some}
+use Rattle.net.specs.WellFormed.{C1, C2, WellFormed, LowestC1, LowestC3, testC2}
+use Rattle.net.proofs.WellFormed.{place-c1-none, place-c1-some, c2-iff, place-c3-none, place-c3-some}
 use Rattle.sheet.specs.declared.Answer.{Answer}
 use Rattle.sheet.specs.Rows.{row, when, answer, answered, firstRow, First, NoRow}
 use Rattle.sheet.specs.Valid.{valid}
@@ -91,14 +91,6 @@ asks-some : (b : Bool) (p : ℕ) → (when (not b) ≡ some p) ↔ ((b ≡ false
 asks-some b p = Iff·trans (when-some (not b) p) (λ h. (not-true b (h .0), h .1), λ h. (rw (h .0), h .1))
 
 module _ (N : Net) where
-  -- v breaks C1, and no lower vertex does
-  abbrev pub LowestC1 : ℕ → Type 0
-  LowestC1 v = BreaksC1 N v × ((u : ℕ) → u < v → ¬ BreaksC1 N u)
-
-  -- y breaks C3, and no lower vertex does
-  abbrev pub LowestC3 : ℕ → Type 0
-  LowestC3 y = BreaksC3 N y × ((u : ℕ) → u < y → ¬ BreaksC3 N u)
-
   -- 0: a valid record of a net that is well formed
   pub verdict-0 : (verdictOf N .number ≡ 0) ↔ ((valid N ≡ true) × WellFormed N)
   unfolding verdictOf verdictRows
@@ -111,7 +103,7 @@ module _ (N : Net) where
   )
 
   -- 31: C1 is broken, at the lowest offending key vertex
-  pub verdict-31 : (v : ℕ) → (verdictOf N ≡ answer 31 v) ↔ ((valid N ≡ true) × LowestC1 v)
+  pub verdict-31 : (v : ℕ) → (verdictOf N ≡ answer 31 v) ↔ ((valid N ≡ true) × LowestC1 N v)
   unfolding verdictOf verdictRows
   verdict-31 v = Iff·trans (four-31 v _ _ _ _) (Iff·and (asks-none (valid N)) (place-c1-some N v))
 
@@ -125,7 +117,7 @@ module _ (N : Net) where
   )
 
   -- 33: C1 and C2 hold and C3 is broken, at the lowest offending output
-  pub verdict-33 : (y : ℕ) → (verdictOf N ≡ answer 33 y) ↔ ((valid N ≡ true) × C1 N × C2 N × LowestC3 y)
+  pub verdict-33 : (y : ℕ) → (verdictOf N ≡ answer 33 y) ↔ ((valid N ≡ true) × C1 N × C2 N × LowestC3 N y)
   unfolding verdictOf verdictRows
   verdict-33 y = Iff·trans (four-33 y _ _ _ _) (
     λ h. (asks-none (valid N) .0 (h .0), place-c1-none N .0 (h .1), c2-iff N .0 (asks-none (testC2 N) .0 (h .2)), place-c3-some N y .0 (h .3)),

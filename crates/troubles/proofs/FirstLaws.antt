@@ -12,11 +12,11 @@ use Rattle.net.specs.declared.Net.{Net}
 use Rattle.net.specs.Graph.{isKey}
 use Rattle.net.specs.Excitation.{excitation}
 use Rattle.net.specs.SignalTable.{gather, spreadInput, spreadKeys, excitationAt}
-use Rattle.net.specs.WellFormed.{breaksC1, placeC1}
+use Rattle.net.specs.WellFormed.{BreaksC1, breaksC1, placeC1}
 use Rattle.net.proofs.Keys.{key-storage}
 use Rattle.net.proofs.SignalTable.{spread-clean}
 use Rattle.net.proofs.TableLaws.{storage-row}
-use Rattle.net.proofs.WellFormed.{BreaksC1, breaks-c1-iff}
+use Rattle.net.proofs.WellFormed.{breaks-c1-iff}
 use Rattle.lanes.specs.Lanes.{assignments, lane}
 use Rattle.excitations.specs.Excitations.{excitationLanes}
 use Rattle.excitations.specs.Fit.{Fit}

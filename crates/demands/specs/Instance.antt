@@ -1,0 +1,36 @@
+-- The nets, the jobs and the buffers of the instances.
+use Prim.Native.Nat.{ℕ}
+use mathlib.Core.List.{List, [], _∷_, _++_}
+use lib.ListN.{replicate}
+use Rattle.ternary.specs.Signal.{X}
+use Rattle.net.specs.declared.Net.{Net}
+use Rattle.sheet.specs.Rows.{answer}
+use Rattle.sheet.specs.Reading.{readSheet}
+use Rattle.sheet.specs.Text.{bytes}
+use Rattle.settlements.specs.Batch.{Batch}
+use Rattle.bench_examples.specs.Nets.{worked, threeNands}
+
+-- what a buffer holds before the call: n bytes that no pass writes
+abbrev pub lent : ℕ → List ℕ
+lent n = replicate n 9
+
+-- the report's three NANDs, and document 01's worked net
+unfoldable pub nands : Net
+nands = readSheet threeNands .net
+
+unfoldable pub workedNet : Net
+workedNet = readSheet worked .net
+
+-- the worked net's four jobs
+unfoldable pub jobs : List ℕ
+jobs = bytes "   4   0   1   1   0\n" ++ bytes "   4   0   0   1   0\n" ++ bytes "   4   1   0   1   0\n" ++ bytes "   4   2   0   1   0\n"
+
+-- what a batch of them leaves in buffers of 8 and 15 lent bytes
+abbrev pub batch : Batch
+batch = record {
+  answer = answer 0 0;
+  buffers = record {
+    results = X ∷ X ∷ 1 ∷ 1 ∷ 9 ∷ 9 ∷ 9 ∷ 9 ∷ [];
+    answers = 0 ∷ 1 ∷ 0 ∷ 0 ∷ 0 ∷ 0 ∷ 44 ∷ 0 ∷ 0 ∷ 42 ∷ 0 ∷ 0 ∷ 9 ∷ 9 ∷ 9 ∷ [];
+  };
+}
