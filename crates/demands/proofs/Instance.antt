@@ -20,7 +20,7 @@ use Rattle.demands.specs.Demand3.{runOf}
 use Rattle.demands.specs.Kept.{Kept, JobKept}
 use Rattle.demands.specs.Instance.{lent, nands, workedNet, jobs, batch}
 use Rattle.bench_examples.proofs.Opened.{opened}
-use Rattle.demands.proofs.Kept.{settle-kept, job-kept, settles-at}
+use Rattle.demands.proofs.Kept.{settle-kept-on, job-kept-on, settles-at}
 
 -- ---- three NANDs, from 11 to 00, from 010; one buffer is longer than the net needs, the other just long enough
 
@@ -30,7 +30,7 @@ nands-read = refl
 
 pub nands-kept : Kept threeNands nands 3 0 2 (lent 4) (lent 3) (record { answer = settling 0 0 2 2; r = X ∷ X ∷ X ∷ 9 ∷ []; t = 1 ∷ 0 ∷ 1 ∷ [] })
 unfolding opened nands
-nands-kept = settle-kept threeNands nands-read 3 0 2 (lent 4) (lent 3) refl refl
+nands-kept = settle-kept-on threeNands nands-read 3 0 2 (lent 4) (lent 3) refl refl
 
 three-keys : keyCount nands ≡ 3
 unfolding opened nands
@@ -55,7 +55,7 @@ worked-read = refl
 -- A, B, q of 0, 1, 1: X in 1 step, then X in 0
 pub worked-kept : Kept worked workedNet 0 1 1 (lent 2) (lent 1) (record { answer = settling 0 0 1 0; r = X ∷ 9 ∷ []; t = X ∷ [] })
 unfolding opened workedNet
-worked-kept = settle-kept worked worked-read 0 1 1 (lent 2) (lent 1) refl refl
+worked-kept = settle-kept-on worked worked-read 0 1 1 (lent 2) (lent 1) refl refl
 
 -- its four jobs in one batch, with result bytes for just as many and answer bytes for one more
 pub batch-runs : batchOf workedNet jobs (lent 8) (lent 15) ≡ batch
@@ -64,8 +64,8 @@ batch-runs = refl
 
 pub job-1-kept : JobKept worked workedNet 0 1 1 0 batch
 unfolding opened workedNet jobs
-job-1-kept = job-kept worked worked-read 0 1 1 0 jobs (lent 8) (lent 15) batch-runs refl (lit< tt) refl refl
+job-1-kept = job-kept-on worked worked-read 0 1 1 0 jobs (lent 8) (lent 15) batch-runs refl (lit< tt) refl refl
 
 pub job-2-kept : JobKept worked workedNet 0 0 1 1 batch
 unfolding opened workedNet jobs
-job-2-kept = job-kept worked worked-read 0 0 1 1 jobs (lent 8) (lent 15) batch-runs refl (lit< tt) refl refl
+job-2-kept = job-kept-on worked worked-read 0 0 1 1 jobs (lent 8) (lent 15) batch-runs refl (lit< tt) refl refl

@@ -1,5 +1,5 @@
--- Whoever is answered 0 has demands 2 and 3 kept, with no further premise: that the net meets C1, that the states are fit and that the buffers are long
--- enough follows from the answer.
+-- Whoever is answered 0 has demands 2 and 3 kept, with no further premise: that the record is one that a sheet gives, that the net meets C1, that the
+-- states are fit and that the buffers are long enough follows from the answer.
 use Prim.Native.Nat.{ℕ, zero, suc, _≤_, _<_}
 use native.Mathlib.Omega.{arith}
 use mathlib.Core.Path.{_≡_, refl, ap, subst, _∙_}
@@ -18,6 +18,7 @@ use Rattle.sheet.specs.Rows.NoRow.{next}
 use Rattle.sheet.specs.Record.{accepted}
 use Rattle.sheet.specs.Reading.{readSheet}
 use Rattle.sheet.specs.Job.{jobOf}
+use Rattle.sheet.proofs.ReadLaws.{valid-iff-accepted}
 use Rattle.settlements.specs.Settle.{Settlement, settleOf}
 use Rattle.settlements.specs.Batch.{jobCount, Batch, jobRows, batchOf}
 use Rattle.settlements.proofs.SettleLaws.{Startable, settle-zero}
@@ -25,39 +26,60 @@ use Rattle.settlements.proofs.BatchLaws.{batch-zero}
 use Rattle.demands.specs.Demand1.{lineOf, answerOf, jobLineRows}
 use Rattle.demands.specs.Demand3.{Settles, runOf}
 use Rattle.demands.specs.Kept.{Kept, JobKept}
-use Rattle.demands.proofs.Fit.{job-fit, settle-fit, batch-fit}
+use Rattle.demands.proofs.Fit.{job-fit, SettleFit, settle-fit, BatchFit, batch-fit}
 use Rattle.demands.proofs.Demand1.{demand1-job}
 use Rattle.demands.proofs.Demand2.{demand2-settle, demand2-job}
 use Rattle.demands.proofs.Demand3.{demand3-settle, demand3-job}
 
-module _ (sheet : List ℕ) {N : Net} (reads : readSheet sheet ≡ accepted N) where
-  settles-of : (A B q : ℕ) → C1 N → Startable N A B q → Settles sheet N A B q
-  settles-of A B q c1 s = record { reads = reads; c1 = c1; old = s .old .input; new = s .new .input; key = s .old .key; rest = s .rest }
+-- answer 0 tells that no row's condition holds
+settle-fits : (N : Net) (A B q : ℕ) (R T : List ℕ) {S : Settlement} → settleOf N A B q R T ≡ S → S .answer .number ≡ 0 → SettleFit N A B q R T
+settle-fits N A B q R T e ok = settle-fit N A B q R T (settle-zero N A B q R T .0 (ap (λ (s : Settlement). s .answer .number) e ∙ ok))
 
-  pub settle-kept : (A B q : ℕ) (R T : List ℕ) {S : Settlement} → settleOf N A B q R T ≡ S → S .answer .number ≡ 0 → Kept sheet N A B q R T S
-  settle-kept A B q R T e ok =
-      let fit = settle-fit N A B q R T (settle-zero N A B q R T .0 (ap (λ (s : Settlement). s .answer .number) e ∙ ok)) in
-      let s = settles-of A B q (fit .c1) (fit .startable) in
+batch-fits : (N : Net) (jobs results answers : List ℕ) → batchOf N jobs results answers .answer .number ≡ 0 → BatchFit N (jobCount jobs) results answers
+batch-fits N jobs results answers ok = batch-fit N (jobCount jobs) results answers (batch-zero N jobs results answers .0 ok)
+
+module _ (sheet : List ℕ) {N : Net} (reads : readSheet sheet ≡ accepted N) where
+  pub settles-of : {A B q : ℕ} → C1 N → Startable N A B q → Settles sheet N A B q
+  settles-of c1 s = record { reads = reads; c1 = c1; old = s .old .input; new = s .new .input; key = s .old .key; rest = s .rest }
+
+  -- over the sheet that the record was read from
+  pub settle-kept-on : (A B q : ℕ) (R T : List ℕ) {S : Settlement} → settleOf N A B q R T ≡ S → S .answer .number ≡ 0 → Kept sheet N A B q R T S
+  settle-kept-on A B q R T e ok =
+      let fit = settle-fits N A B q R T e ok in
+      let s = settles-of (fit .c1) (fit .startable) in
       subst (Kept sheet N A B q R T) e (record {
         settles = s;
         promise = demand3-settle s R T (fit .r-room) (fit .t-room);
         passes = demand2-settle s R T (fit .r-room) (fit .t-room);
       })
 
-  -- the batch is answered 0, and the job's own number is 0
-  pub job-kept : (A B q n : ℕ) (jobs results answers : List ℕ) {S : Batch} → batchOf N jobs results answers ≡ S → S .answer .number ≡ 0
+  pub job-kept-on : (A B q n : ℕ) (jobs results answers : List ℕ) {S : Batch} → batchOf N jobs results answers ≡ S → S .answer .number ≡ 0
       → n < jobCount jobs → jobOf (lineOf n jobs) ≡ Asked A B q → at (answerOf n (S .buffers .answers)) 0 ≡ 0 → JobKept sheet N A B q n S
-  job-kept A B q n jobs results answers e ok h asked job-ok =
+  job-kept-on A B q n jobs results answers e ok h asked job-ok =
       let whole = ap (λ (b : Batch). b .answer .number) e ∙ ok in
-      let fit = batch-fit N (jobCount jobs) results answers (batch-zero N jobs results answers .0 whole) in
+      let fit = batch-fits N jobs results answers whole in
       let number = ap (λ (b : Batch). at (answerOf n (b .buffers .answers)) 0) e ∙ job-ok in
       let passed = rw asked at (demand1-job N jobs results answers n h whole .answered .fit .0 number) in
-      let s = settles-of A B q (fit .c1) (job-fit N A B q (rows-of passed)) in
+      let s = settles-of (fit .c1) (job-fit N A B q (rows-of passed)) in
       let promise = demand3-job s jobs results answers n h asked (fit .results-room) (fit .answers-room) in
       subst (JobKept sheet N A B q n) e (record { settles = s; promise = promise; passes = demand2-job s promise })
     where
       rows-of : NoRow (jobLineRows N (Asked A B q)) → NoRow (jobRows N A B q)
       rows-of (next _ f) = f
+
+-- WHOEVER IS ANSWERED 0: the record is one that some sheet gives, and on it all is kept
+pub settle-kept : (N : Net) (A B q : ℕ) (R T : List ℕ) {S : Settlement} → settleOf N A B q R T ≡ S → S .answer .number ≡ 0
+    → (sheet : List ℕ) × Kept sheet N A B q R T S
+settle-kept N A B q R T e ok =
+    let read = valid-iff-accepted N .0 (settle-fits N A B q R T e ok .is-valid) in
+    (read .0, settle-kept-on (read .0) (read .1) A B q R T e ok)
+
+-- the batch is answered 0, and the job's own number is 0
+pub job-kept : (N : Net) (A B q n : ℕ) (jobs results answers : List ℕ) {S : Batch} → batchOf N jobs results answers ≡ S → S .answer .number ≡ 0
+    → n < jobCount jobs → jobOf (lineOf n jobs) ≡ Asked A B q → at (answerOf n (S .buffers .answers)) 0 ≡ 0 → (sheet : List ℕ) × JobKept sheet N A B q n S
+job-kept N A B q n jobs results answers e ok h asked job-ok =
+    let read = valid-iff-accepted N .0 (batch-fits N jobs results answers (ap (λ (b : Batch). b .answer .number) e ∙ ok) .is-valid) in
+    (read .0, job-kept-on (read .0) (read .1) A B q n jobs results answers e ok h asked job-ok)
 
 -- a binary value that is not against a binary signal equals it
 equals : (s v : ℕ) → s < 2 → v < 2 → ¬ Against s v → v ≡ s

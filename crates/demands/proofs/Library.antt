@@ -34,7 +34,7 @@ use Rattle.demands.specs.Kept.{JobKept}
 use Rattle.demands.specs.Library.{BatchNumber}
 use Rattle.demands.specs.Library.BatchNumber.{fit, unread, refused}
 use Rattle.demands.proofs.Demand3.{demand3-job}
-use Rattle.demands.proofs.Kept.{job-kept}
+use Rattle.demands.proofs.Kept.{job-kept-on}
 
 module _ (sheet jobs results answers : List ℕ) where
   on-net : {N : Net} → readSheet sheet ≡ accepted N → sheetBatchOf sheet jobs results answers ≡ sheetBatch (batchOf N jobs results answers) (keyCount N)
@@ -63,7 +63,7 @@ module _ (sheet jobs results answers : List ℕ) where
   sheet-job-kept {S} e ok A B q n h asked job-ok =
       let reads = accepted-at-zero sheet (read-zero (ap (λ (x : SheetBatch). x .batch .answer .number) e ∙ ok)) in
       let same : sheetBatch (batchOf (readSheet sheet .net) jobs results answers) (keyCount (readSheet sheet .net)) ≡ S = sym (on-net reads) ∙ e in
-      (ap (λ (x : SheetBatch). x .keys) (sym same), job-kept sheet reads A B q n jobs results answers (ap (λ (x : SheetBatch). x .batch) same) ok h asked job-ok)
+      (ap (λ (x : SheetBatch). x .keys) (sym same), job-kept-on sheet reads A B q n jobs results answers (ap (λ (x : SheetBatch). x .batch) same) ok h asked job-ok)
 
 -- ---- the numbers of the call
 
