@@ -32,9 +32,9 @@ use Rattle.soundness.proofs.VerdictLaws.{verdict-0, verdict-31, verdict-32, ver
 use Rattle.settlements.specs.Settle.{written, settleOf}
 use Rattle.settlements.specs.Batch.{Batch}
 use Rattle.settlements.proofs.SettleLaws.{settle-accepts}
-use Rattle.demands.specs.Demand2.{ExcitationMeans, PassMeans, PassesMean, SettlePasses, JobPasses}
+use Rattle.demands.specs.Demand2.{ExcitationMeans, PassMeans, PassesMean, SettledPasses, SettlePasses, JobPasses}
 use Rattle.demands.specs.Demand3.{Settles, JobPromise}
-use Rattle.demands.proofs.Vectors.{Holds, settle-holds, job-holds}
+use Rattle.demands.proofs.Vectors.{Holds, vectors-hold, settle-holds, job-holds}
 use Rattle.demands.proofs.Demand3.{premises, startable, is-valid}
 
 -- ---- an accepted net
@@ -107,7 +107,11 @@ module _ {sheet : List ℕ} {N : Net} {A B q : ℕ} (s : Settles sheet N A B q) 
   unfolding r t
   holds-means v = record { first = rw (v .holds-r) first-means; second = rw (v .holds-r, v .holds-t) second-means }
 
-  -- DEMAND 2 of the passes, over the counts and the bytes that settling gives
+  -- DEMAND 2 of the passes, over the counts and the vectors that they give
+  pub demand2-settled : SettledPasses N A B q
+  demand2-settled = holds-means (vectors-hold N A B q)
+
+  -- over the counts and the bytes that settling gives
   pub demand2-settle : (R T : List ℕ) → keyCount N ≤ length R → keyCount N ≤ length T → SettlePasses N A B q (settleOf N A B q R T)
   unfolding written
   demand2-settle R T hr ht = subst (SettlePasses N A B q) (sym (settle-accepts N A B q (startable s) R T (is-valid s) (s .c1) hr ht))

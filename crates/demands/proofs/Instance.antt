@@ -3,7 +3,7 @@
 -- nodes switch, and whatever else is tried in between, once two rounds have closed under 00 the key state is 101.
 use Prim.Native.Nat.{ℕ, zero, suc, _≤_, _<_}
 use native.Mathlib.Omega.{arith}
-use mathlib.Core.Path.{_≡_, refl}
+use mathlib.Core.Path.{_≡_, refl, subst}
 use mathlib.Core.List.{List, [], _∷_}
 use lib.Dec.{lit<}
 use Rattle.ternary.specs.Bits.{bit}
@@ -12,15 +12,22 @@ use Rattle.ternary.specs.Run.{Step}
 use Rattle.net.specs.Graph.{keyCount}
 use Rattle.sheet.specs.Record.{accepted}
 use Rattle.sheet.specs.Rows.{answer}
+use Rattle.sheet.specs.Line.{writeNumber}
 use Rattle.sheet.specs.Reading.{readSheet}
+use Rattle.soundness.specs.Verdict.{verdictRows, verdictOf}
 use Rattle.settlements.specs.Settle.{settling}
 use Rattle.settlements.specs.Batch.{batchOf}
+use Rattle.output.specs.Text.{vectorText, jobText, jobTexts}
+use Rattle.output.specs.Printed.{printedLine, printedAnswer}
+use Rattle.output.specs.Output.{firstLine, judgedOf, openingText, batchFor, netText, jobsText, outputOf}
 use Rattle.bench_examples.specs.Nets.{worked, threeNands}
 use Rattle.demands.specs.Demand3.{runOf}
 use Rattle.demands.specs.Kept.{Kept, JobKept}
-use Rattle.demands.specs.Instance.{lent, nands, workedNet, jobs, batch}
+use Rattle.demands.specs.Instance.{lent, nands, workedNet, jobs, batch, printed}
+use Rattle.demands.specs.Text.{TextKept}
 use Rattle.bench_examples.proofs.Opened.{opened}
 use Rattle.demands.proofs.Kept.{settle-kept-on, job-kept-on, settles-at}
+use Rattle.demands.proofs.TextKept.{text-kept}
 
 -- ---- three NANDs, from 11 to 00, from 010; one buffer is longer than the net needs, the other just long enough
 
@@ -69,3 +76,18 @@ job-1-kept = job-kept-on worked worked-read 0 1 1 0 jobs (lent 8) (lent 15) batc
 pub job-2-kept : JobKept worked workedNet 0 0 1 1 batch
 unfolding opened workedNet jobs
 job-2-kept = job-kept-on worked worked-read 0 0 1 1 jobs (lent 8) (lent 15) batch-runs refl (lit< tt) refl refl
+
+-- ---- the text of these jobs
+
+text-printed : outputOf worked jobs ≡ printed
+unfolding opened verdictRows verdictOf vectorText jobText jobTexts firstLine judgedOf openingText batchFor netText jobsText outputOf jobs
+text-printed = refl
+
+-- the second line shows answer 0, and that is all that is asked
+shows-0 : printedAnswer (printedLine (keyCount workedNet) 1 printed) ≡ writeNumber 0
+unfolding opened workedNet
+shows-0 = refl
+
+pub line-2-kept : TextKept worked workedNet jobs 1 printed
+unfolding workedNet
+line-2-kept = subst (TextKept worked workedNet jobs 1) text-printed (text-kept worked jobs 1 (rw text-printed shows-0))

@@ -1,9 +1,11 @@
 -- One job of a batch by its rows: 46 for a line that is no job line, then the rows of settling that are left.
-use Prim.Native.Nat.{ℕ}
+use Prim.Native.Nat.{ℕ, _^_, _≤_, _<_}
+use native.Mathlib.Omega.{arith}
 use mathlib.Core.Path.{_≡_, refl, ap}
 use mathlib.Core.Bool.{not, _&&_, true≢false}
 use mathlib.Core.List.{List, _∷_}
-use mathlib.Core.Option.{none}
+use mathlib.Core.Option.{Option, none}
+use lib.Dec.{lit<, lit≤}
 use lib.ListN.{take, drop}
 use Rattle.net.specs.declared.Net.{Net}
 use Rattle.net.specs.Graph.{keyCount}
@@ -15,7 +17,7 @@ use Rattle.sheet.specs.Rows.{answer, Row, row, firstRow, First, NoRow}
 use Rattle.sheet.specs.Rows.First.{here, later}
 use Rattle.sheet.specs.Rows.NoRow.{next}
 use Rattle.sheet.specs.Job.{jobNumber}
-use Rattle.sheet.proofs.RowLaws.{positive, first-some, answered-zero, answered-some}
+use Rattle.sheet.proofs.RowLaws.{positive, first-some, RowsAnswer, nothing, found, rows-answer, answered-zero, answered-some}
 use Rattle.settlements.specs.Settle.{unsettled}
 use Rattle.settlements.specs.Batch.{jobRows, jobSettlement}
 use Rattle.settlements.proofs.SettleLaws.{settle-some}
@@ -59,3 +61,22 @@ module _ (N : Net) where
       let e = first-some (jobLineRows N Refused) n p .1 f in
       let is : answer (jobNumber Refused) 0 ≡ answer n p = cc in
       ap (λ (a : Answer). unsettled a (take (keyCount N) own) (drop (keyCount N) own)) is
+
+  -- the numbers of a job
+  pub job-numbers : (j : JobLine) {m p : ℕ} → First (jobLineRows N j) m p → (1 ≤ m) × (m < 10 ^ 3)
+  unfolding jobRows
+  job-numbers (Asked A B q) (here e) = absurd (true≢false (cc))
+  job-numbers (Asked A B q) (later _ (here _)) = (lit≤ tt, lit< tt)
+  job-numbers (Asked A B q) (later _ (later _ (here _))) = (lit≤ tt, lit< tt)
+  job-numbers (Asked A B q) (later _ (later _ (later _ (here _)))) = (lit≤ tt, lit< tt)
+  job-numbers Refused (here _) = (lit≤ tt, lit< tt)
+
+  -- what a job is answered has fewer digits than a field has columns
+  pub job-answer-small : (j : JobLine) {x : ℕ} → Answers (jobLineRows N j) (answer x 0) → x < 10 ^ 3
+  job-answer-small j {x} a = go (rows-answer (jobLineRows N j))
+    where
+      go : {o : Option Answer} → RowsAnswer (jobLineRows N j) o → x < 10 ^ 3
+      go (nothing f) = omega (arith, a .fit .1 f)
+      go (found {n = m} {p = p} f) =
+          let l = job-numbers j f in
+          omega (arith, l .1, ap (λ (b : Answer). b .number) (a .wrong m p (l .0) .1 f))

@@ -8,5 +8,8 @@ pub mod Demand3
 pub mod Demand2
 pub mod Kept
 pub mod Instance
+pub mod LinesRead
 pub mod Text
+pub mod TextAnswers
+pub mod TextKept
 pub mod Library

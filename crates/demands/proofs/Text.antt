@@ -1,11 +1,10 @@
 -- Demand 3 reaches the text that the program prints.
-use Prim.Native.Nat.{ℕ, _-_, _*_, _≤_, _<_}
+use Prim.Native.Nat.{ℕ, _≤_, _<_}
 use native.Mathlib.Omega.{arith}
 use mathlib.Core.Path.{_≡_, ap, subst, _∙_}
 use mathlib.Core.Option.{none}
 use mathlib.Core.List.{List, map}
-use lib.ListN.{length, take, drop, length-take, length-drop, length-replicate}
-use lib.Seq.{take-take}
+use lib.ListN.{length, drop, length-drop, length-replicate}
 use Rattle.ternary.specs.Bits.{bit}
 use Rattle.ternary.specs.Signal.{at}
 use Rattle.ternary.specs.Run.{Run}
@@ -14,11 +13,9 @@ use Rattle.net.specs.Graph.{keyCount}
 use Rattle.net.specs.Ternary.{settled}
 use Rattle.net.specs.WellFormed.{placeC1}
 use Rattle.net.proofs.WellFormed.{place-c1-none}
-use Rattle.sheet.specs.Limits.{lineWidth}
 use Rattle.sheet.specs.declared.JobLine.the-variants.{Asked}
 use Rattle.sheet.specs.Job.{jobOf}
 use Rattle.settlements.specs.Batch.{jobCount, jobWidth}
-use Rattle.settlements.proofs.Parts.{drop-take}
 use Rattle.output.specs.Limits.{mostJobs}
 use Rattle.output.specs.Text.{character, vectorText}
 use Rattle.output.specs.Output.{batchFor, outputOf}
@@ -29,6 +26,7 @@ use Rattle.demands.specs.Demand1.{lineOf}
 use Rattle.demands.specs.Demand3.{Settles, runOf, NoneAgainst, JobPromise}
 use Rattle.demands.specs.Text.{NoneAgainstPrinted, TextPromise}
 use Rattle.demands.proofs.Vectors.{r-size, t-size}
+use Rattle.demands.proofs.LinesRead.{read-iff, read-line}
 use Rattle.demands.proofs.Demand3.{demand3-job}
 
 -- characters of a vector that no key node is against
@@ -37,15 +35,6 @@ none-printed : (N : Net) (s : Run) {characters : List ℕ} (vector : List ℕ) �
 none-printed N s {characters} vector shown fits clear k h against =
     let is = ap (λ (l : List ℕ). at l k) shown ∙ vector-at (keyCount N) vector k h fits in
     clear k h (character-against (at vector k) (bit (s .key) k) .0 (subst (λ (c : ℕ). AgainstPrinted c (bit (s .key) k)) is against))
-
--- the jobs that are read
-module _ (jobs : List ℕ) (n : ℕ) (few : n < mostJobs) where
-  read-count : n < jobCount jobs → n < jobCount (linesRead jobs)
-  unfolding jobCount
-  read-count h = rw length-take (omega arith)
-
-  read-line : lineOf n (linesRead jobs) ≡ lineOf n jobs
-  read-line = ap (take lineWidth) (drop-take (n * lineWidth) (mostJobs * lineWidth) jobs) ∙ take-take lineWidth (mostJobs * lineWidth - n * lineWidth) (drop (n * lineWidth) jobs) (omega arith)
 
 module _ {sheet : List ℕ} {N : Net} {A B q : ℕ} (s : Settles sheet N A B q) where
   -- DEMAND 3 of the text: job n, from 0, in the output
@@ -66,7 +55,7 @@ module _ {sheet : List ℕ} {N : Net} {A B q : ℕ} (s : Settles sheet N A B q) 
       c1 = place-c1-none N .1 (s .c1)
 
       read : n < jobCount (linesRead jobs)
-      read = read-count jobs n few h
+      read = read-iff jobs n .1 (few, h)
 
       job : JobPromise N A B q n (batchFor N (linesRead jobs))
       job = demand3-job s (linesRead jobs) _ _ n read (ap jobOf (read-line jobs n few) ∙ asked) (rw length-replicate (omega arith)) (rw length-replicate (omega arith))

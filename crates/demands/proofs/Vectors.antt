@@ -32,6 +32,9 @@ module _ (N : Net) (A B q : ℕ) where
     pub holds-r : take (keyCount N) first ≡ r
     pub holds-t : take (keyCount N) second ≡ t
 
+  pub vectors-hold : Holds r t
+  vectors-hold = record { holds-r = take-all (keyCount N) r (omega (arith, r-size)); holds-t = take-all (keyCount N) t (omega (arith, t-size)) }
+
   pub settle-holds : (R T : List ℕ) → Holds (written N A B q R T .r) (written N A B q R T .t)
   unfolding written
   settle-holds R T = record { holds-r = take-at r _ (keyCount N) r-size; holds-t = take-at t _ (keyCount N) t-size }

@@ -13,7 +13,7 @@ use Rattle.net.specs.declared.Net.{Net}
 use Rattle.net.specs.Graph.{keyCount, keyVertex}
 use Rattle.net.specs.Walks.{ExcitedTo0, ExcitedTo1, Floating}
 use Rattle.net.specs.Network.{network}
-use Rattle.net.specs.Ternary.{SignalsDisagree}
+use Rattle.net.specs.Ternary.{settled, SignalsDisagree}
 use Rattle.settlements.specs.Settle.{Settlement}
 use Rattle.settlements.specs.Batch.{Batch}
 use Rattle.demands.specs.Demand1.{resultOf, answerOf}
@@ -42,6 +42,12 @@ pub record PassesMean (N : Net) (A B q : ℕ) (firstSteps secondSteps : ℕ) (r 
 -- over what settling gives
 abbrev pub SettlePasses : Net → ℕ → ℕ → ℕ → Settlement → Type 0
 SettlePasses N A B q S = PassesMean N A B q (S .answer .«first_steps») (S .answer .«second_steps») (S .r) (S .t)
+
+-- over what both passes give, which is what the text shows (`TextPromise`)
+abbrev pub SettledPasses : Net → ℕ → ℕ → ℕ → Type 0
+SettledPasses N A B q =
+    let s = settled N A B q in
+    PassesMean N A B q (s .firstSteps) (s .secondSteps) (s .r) (s .t)
 
 -- and over the bytes of job n, from 0, of a batch
 abbrev pub JobPasses : Net → ℕ → ℕ → ℕ → ℕ → Batch → Type 0

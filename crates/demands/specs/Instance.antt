@@ -1,4 +1,4 @@
--- The nets, the jobs and the buffers of the instances.
+-- The nets, the jobs, the buffers and the text of the instances.
 use Prim.Native.Nat.{ℕ}
 use mathlib.Core.List.{List, [], _∷_, _++_}
 use lib.ListN.{replicate}
@@ -6,7 +6,7 @@ use Rattle.ternary.specs.Signal.{X}
 use Rattle.net.specs.declared.Net.{Net}
 use Rattle.sheet.specs.Rows.{answer}
 use Rattle.sheet.specs.Reading.{readSheet}
-use Rattle.sheet.specs.Text.{bytes}
+use Rattle.sheet.specs.Text.{bytes, text}
 use Rattle.settlements.specs.Batch.{Batch}
 use Rattle.bench_examples.specs.Nets.{worked, threeNands}
 
@@ -34,3 +34,14 @@ batch = record {
     answers = 0 ∷ 1 ∷ 0 ∷ 0 ∷ 0 ∷ 0 ∷ 44 ∷ 0 ∷ 0 ∷ 42 ∷ 0 ∷ 0 ∷ 9 ∷ 9 ∷ 9 ∷ [];
   };
 }
+
+-- what the program prints for them
+abbrev pub printed : List ℕ
+printed =
+    text (
+    "   0   0   0   1\n"
+    ∷ "   1   0   1   0 X X\n"
+    ∷ "   2   0   0   0 1 1\n"
+    ∷ "   3  44   0   0 - -\n"
+    ∷ "   4  42   0   0 - -\n"
+    ∷ [])

@@ -16,8 +16,8 @@ use Rattle.sheet.specs.Limits.{fieldWidth, blank, digitZero, lineEnd}
 use Rattle.sheet.specs.Line.{writeNumber}
 use Rattle.output.specs.Limits.{letterX, hyphen}
 use Rattle.output.specs.Text.{character, vectorText, jobText}
-use Rattle.output.specs.Printed.{printedNumbers, printedR, printedT, AgainstPrinted}
-use Rattle.output.proofs.Lengths.{length-four, length-vector}
+use Rattle.output.specs.Printed.{printedNumbers, printedAnswer, printedR, printedT, AgainstPrinted}
+use Rattle.output.proofs.Lengths.{length-number, length-four, length-vector}
 
 -- ---- one character
 
@@ -75,6 +75,14 @@ pub vector-at : (h : ℕ) (vector : List ℕ) (k : ℕ) → k < h → h ≤ leng
 vector-at h vector k inside fits = vector-entry h 0 vector fits k inside
 
 -- ---- the parts of a job's line
+
+-- the second field is the job's answer
+pub answer-printed : (h n : ℕ) (three own : List ℕ) → printedAnswer (jobText h n three own) ≡ writeNumber (at three 0)
+unfolding jobText
+answer-printed h n three own = simp append-assoc (second (writeNumber n) (writeNumber (at three 0)) _ (length-number n) (length-number (at three 0)))
+  where
+    second : (a b rest : List ℕ) → length a ≡ fieldWidth → length b ≡ fieldWidth → printedAnswer (a ++ (b ++ rest)) ≡ b
+    second a b rest ea eb = ap (take fieldWidth) (drop-at a (b ++ rest) fieldWidth ea) ∙ take-at b rest fieldWidth eb
 
 module _ (h n : ℕ) (three own : List ℕ) (size : length own ≡ 2 * h) where
   abbrev numbers : List ℕ

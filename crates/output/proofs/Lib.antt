@@ -11,5 +11,6 @@ pub mod Characters
 pub mod Stored
 pub mod LinesInTurn
 pub mod OutputLines
+pub mod LinesThere
 pub mod Examples
 pub mod ForCSteps

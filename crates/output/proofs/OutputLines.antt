@@ -4,7 +4,7 @@ use native.Mathlib.Nat.{mul-le-mul-right, zero-mul, suc-mul, add-zero, add-suc, 
 use native.Mathlib.Omega.{arith}
 use mathlib.Core.Path.{_≡_, sym, ap, _∙_}
 use mathlib.Core.Logic.{_≢_}
-use mathlib.Core.List.{List, _++_, map}
+use mathlib.Core.List.{List, [], _∷_, _++_, map}
 use mathlib.Core.Option.{none}
 use lib.ListN.{length, take, drop, replicate, length-drop}
 use lib.Seq.{take-at, drop-at, drop-drop, length-take-le}
@@ -12,7 +12,7 @@ use Rattle.ternary.specs.Signal.{at}
 use Rattle.net.specs.declared.Net.{Net}
 use Rattle.net.specs.Graph.{keyCount}
 use Rattle.net.specs.WellFormed.{placeC1}
-use Rattle.sheet.specs.Limits.{lineWidth}
+use Rattle.sheet.specs.Limits.{lineWidth, blank, lineEnd}
 use Rattle.sheet.specs.Line.{writeNumber}
 use Rattle.sheet.specs.Record.{accepted}
 use Rattle.sheet.specs.Reading.{readSheet}
@@ -22,11 +22,11 @@ use Rattle.settlements.proofs.BatchLaws.{drop-suc-mul, step-drop}
 use Rattle.output.specs.Limits.{mostJobs, openingBytes, jobBytes, hyphen}
 use Rattle.output.specs.Text.{character, vectorText, jobText, jobTexts}
 use Rattle.output.specs.Output.{openingText, batchFor, netText, jobsText, outputOf}
-use Rattle.output.specs.Printed.{printedLine, printedNumbers, printedR, printedT}
+use Rattle.output.specs.Printed.{printedLine, printedNumbers, printedAnswer, printedR, printedT}
 use Rattle.output.proofs.Lengths.{length-opening, length-job}
 use Rattle.output.proofs.GoesOn.{batch-runs, goes-on}
 use Rattle.output.proofs.JobsText.{run-results}
-use Rattle.output.proofs.Characters.{vector-taken, vector-settled, vector-refused, numbers-printed, r-printed, t-printed}
+use Rattle.output.proofs.Characters.{vector-taken, vector-settled, vector-refused, answer-printed, numbers-printed, r-printed, t-printed}
 
 -- the bytes of job k, from 0, in the two buffers
 abbrev pub ownOf : Net → ℕ → List ℕ → List ℕ
@@ -106,6 +106,9 @@ module _ (sheet : List ℕ) (N : Net) (reads : readSheet sheet ≡ accepted N) (
     pub numbers-in-output : printedNumbers line ≡ writeNumber (suc k) ++ writeNumber (at three 0) ++ writeNumber (at three 1) ++ writeNumber (at three 2)
     numbers-in-output = ap printedNumbers line-printed ∙ numbers-printed (keyCount N) (suc k) three own own-size
 
+    pub answer-in-output : printedAnswer line ≡ writeNumber (at three 0)
+    answer-in-output = ap printedAnswer line-printed ∙ answer-printed (keyCount N) (suc k) three own
+
     pub r-in-output : printedR (keyCount N) line ≡ vectorText (keyCount N) (at three 0) own
     r-in-output = ap (printedR (keyCount N)) line-printed ∙ r-printed (keyCount N) (suc k) three own own-size
 
@@ -127,3 +130,11 @@ module _ (sheet : List ℕ) (N : Net) (reads : readSheet sheet ≡ accepted N) (
       r-in-output ∙ vector-refused (keyCount N) (at three 0) own refused,
       t-in-output ∙ vector-refused (keyCount N) (at three 0) (drop (keyCount N) own) refused,
     )
+
+    -- the whole line of a refused job
+    pub refused-line : (m : ℕ) → m ≢ 0 → three ≡ m ∷ 0 ∷ 0 ∷ [] → line
+        ≡ writeNumber (suc k) ++ writeNumber m ++ writeNumber 0 ++ writeNumber 0
+        ++ blank ∷ (replicate (keyCount N) hyphen ++ blank ∷ (replicate (keyCount N) hyphen ++ lineEnd ∷ []))
+    unfolding jobText
+    refused-line m refused is =
+        line-printed ∙ rw (is, vector-refused (keyCount N) m own refused, vector-refused (keyCount N) m (drop (keyCount N) own) refused)

@@ -1,4 +1,4 @@
--- Where the output has the line of a job, and in it the characters of r and t.
+-- Where the output has the line of a job, and in it the numbers and the characters of r and t.
 use Prim.Native.Nat.{ℕ, suc, _+_, _*_}
 use mathlib.Core.Path.{_≡_}
 use mathlib.Core.Logic.{_⊎_}
@@ -11,10 +11,15 @@ use Rattle.output.specs.Limits.{openingBytes, jobBytes}
 abbrev pub printedLine : ℕ → ℕ → List ℕ → List ℕ
 printedLine h n output = take (jobBytes h) (drop (openingBytes + n * jobBytes h) output)
 
--- its four numbers; then, each after a blank, r and t
+-- its four numbers
 abbrev pub printedNumbers : List ℕ → List ℕ
 printedNumbers line = take (4 * fieldWidth) line
 
+-- the second of them, the job's answer
+abbrev pub printedAnswer : List ℕ → List ℕ
+printedAnswer line = take fieldWidth (drop fieldWidth line)
+
+-- r and t, each after a blank
 abbrev pub printedR : ℕ → List ℕ → List ℕ
 printedR h line = take h (drop (4 * fieldWidth + 1) line)
 

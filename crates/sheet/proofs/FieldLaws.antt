@@ -8,12 +8,12 @@ use mathlib.Core.List.{List}
 use mathlib.Core.Option.{some}
 use lib.Arith.{mod-mul}
 use lib.Dec.{ltb, lit<}
-use lib.ListN.{length}
-use borrow.Author.Tests.{ltb-true}
+use lib.ListN.{length, getD}
+use borrow.Author.Tests.{ltb-true, lt-ltb}
 use Rattle.ternary.specs.Lists.{same}
 use Rattle.ternary.proofs.Tests.{cond-by}
 use Rattle.ternary.proofs.ListLaws.{same-true, same-refl}
-use Rattle.sheet.specs.Limits.{digitZero}
+use Rattle.sheet.specs.Limits.{blank, digitZero}
 use Rattle.sheet.specs.Field.{column, writeField, fieldValue, readField}
 
 pub length-field : (w n : ℕ) → length (writeField w n) ≡ w
@@ -60,3 +60,22 @@ write-read-field w b n =
     let last : fieldValue b ≡ fieldValue b % 10 ^ w = ap fieldValue field ∙ value-written w (fieldValue b) in
     record { written = rw (← is) (sym field); small = rw (← is, last) (mod-lt (fieldValue b) (ten-pos w)) })
     (λ _ e. absurd (true≢false (cc)))
+
+-- ---- two numbers with the same field
+
+-- a number that starts with a blank has fewer digits than columns
+blank-small : (n k : ℕ) → column n (suc k) ≡ blank → n < 10 ^ suc k
+unfolding column
+blank-small n k =
+    cond-by (λ (c : ℕ). c ≡ blank → n < 10 ^ suc k) (ltb n (10 ^ suc k)) (λ t _. ltb-true n (10 ^ suc k) t) (λ _ e. absurd (omega arith))
+
+-- the field of a number with fewer digits than columns is that of no other number, however large
+pub field-same : (w m n : ℕ) → n < 10 ^ suc w → writeField (suc (suc w)) m ≡ writeField (suc (suc w)) n → m ≡ n
+unfolding writeField column
+field-same w m n h e =
+    let starts : column n (suc w) ≡ blank = rw (lt-ltb n (10 ^ suc w) h) in
+    let small : m < 10 ^ suc w = blank-small m w (ap (λ (l : List ℕ). getD l 0 0) e ∙ starts) in
+    sym (value-small small) ∙ ap fieldValue e ∙ value-small h
+  where
+    value-small : {x : ℕ} → x < 10 ^ suc w → fieldValue (writeField (suc (suc w)) x) ≡ x
+    value-small {x} l = value-written (suc (suc w)) x ∙ mod-eq-of-lt (omega (arith, l, pow-succ' 10 (suc w)))
