@@ -22,7 +22,7 @@ use Rattle.output.specs.Printed.{printedLine, printedAnswer}
 use Rattle.output.specs.Output.{firstLine, judgedOf, openingText, batchFor, netText, jobsText, outputOf}
 use Rattle.bench_examples.specs.Nets.{worked, threeNands}
 use Rattle.demands.specs.Demand3.{runOf}
-use Rattle.demands.specs.Kept.{Kept, JobKept}
+use Rattle.demands.specs.Kept.{Kept, JobLineKept}
 use Rattle.demands.specs.Instance.{lent, nands, workedNet, jobs, batch, printed}
 use Rattle.demands.specs.Text.{TextKept}
 use Rattle.bench_examples.proofs.Opened.{opened}
@@ -69,13 +69,14 @@ pub batch-runs : batchOf workedNet jobs (lent 8) (lent 15) ≡ batch
 unfolding opened workedNet jobs
 batch-runs = refl
 
-pub job-1-kept : JobKept worked workedNet 0 1 1 0 batch
+-- jobs 1 and 2 are answered 0
+pub job-1-kept : JobLineKept worked workedNet jobs 0 batch
 unfolding opened workedNet jobs
-job-1-kept = job-kept-on worked worked-read 0 1 1 0 jobs (lent 8) (lent 15) batch-runs refl (lit< tt) refl refl
+job-1-kept = job-kept-on worked worked-read 0 jobs (lent 8) (lent 15) batch-runs refl (lit< tt) refl
 
-pub job-2-kept : JobKept worked workedNet 0 0 1 1 batch
+pub job-2-kept : JobLineKept worked workedNet jobs 1 batch
 unfolding opened workedNet jobs
-job-2-kept = job-kept-on worked worked-read 0 0 1 1 jobs (lent 8) (lent 15) batch-runs refl (lit< tt) refl refl
+job-2-kept = job-kept-on worked worked-read 1 jobs (lent 8) (lent 15) batch-runs refl (lit< tt) refl
 
 -- ---- the text of these jobs
 

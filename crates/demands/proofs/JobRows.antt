@@ -1,5 +1,5 @@
 -- One job of a batch by its rows: 46 for a line that is no job line, then the rows of settling that are left.
-use Prim.Native.Nat.{ℕ, _^_, _≤_, _<_}
+use Prim.Native.Nat.{ℕ, _-_, _^_, _≤_, _<_}
 use native.Mathlib.Omega.{arith}
 use mathlib.Core.Path.{_≡_, refl, ap}
 use mathlib.Core.Bool.{not, _&&_, true≢false}
@@ -16,6 +16,7 @@ use Rattle.sheet.specs.declared.JobLine.the-variants.{Asked, Refused}
 use Rattle.sheet.specs.Rows.{answer, Row, row, firstRow, First, NoRow}
 use Rattle.sheet.specs.Rows.First.{here, later}
 use Rattle.sheet.specs.Rows.NoRow.{next}
+use Rattle.sheet.specs.Limits.{fieldWidth}
 use Rattle.sheet.specs.Job.{jobNumber}
 use Rattle.sheet.proofs.RowLaws.{positive, first-some, RowsAnswer, nothing, found, rows-answer, answered-zero, answered-some}
 use Rattle.settlements.specs.Settle.{unsettled}
@@ -63,7 +64,7 @@ module _ (N : Net) where
       ap (λ (a : Answer). unsettled a (take (keyCount N) own) (drop (keyCount N) own)) is
 
   -- the numbers of a job
-  pub job-numbers : (j : JobLine) {m p : ℕ} → First (jobLineRows N j) m p → (1 ≤ m) × (m < 10 ^ 3)
+  pub job-numbers : (j : JobLine) {m p : ℕ} → First (jobLineRows N j) m p → (1 ≤ m) × (m < 10 ^ (fieldWidth - 1))
   unfolding jobRows
   job-numbers (Asked A B q) (here e) = absurd (true≢false (cc))
   job-numbers (Asked A B q) (later _ (here _)) = (lit≤ tt, lit< tt)
@@ -72,10 +73,10 @@ module _ (N : Net) where
   job-numbers Refused (here _) = (lit≤ tt, lit< tt)
 
   -- what a job is answered has fewer digits than a field has columns
-  pub job-answer-small : (j : JobLine) {x : ℕ} → Answers (jobLineRows N j) (answer x 0) → x < 10 ^ 3
+  pub job-answer-small : (j : JobLine) {x : ℕ} → Answers (jobLineRows N j) (answer x 0) → x < 10 ^ (fieldWidth - 1)
   job-answer-small j {x} a = go (rows-answer (jobLineRows N j))
     where
-      go : {o : Option Answer} → RowsAnswer (jobLineRows N j) o → x < 10 ^ 3
+      go : {o : Option Answer} → RowsAnswer (jobLineRows N j) o → x < 10 ^ (fieldWidth - 1)
       go (nothing f) = omega (arith, a .fit .1 f)
       go (found {n = m} {p = p} f) =
           let l = job-numbers j f in

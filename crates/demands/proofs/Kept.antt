@@ -12,21 +12,18 @@ use Rattle.ternary.proofs.BitLaws.{bit-lt}
 use Rattle.net.specs.declared.Net.{Net}
 use Rattle.net.specs.Graph.{keyCount}
 use Rattle.net.specs.WellFormed.{C1}
-use Rattle.sheet.specs.declared.JobLine.the-variants.{Asked}
-use Rattle.sheet.specs.Rows.{NoRow}
-use Rattle.sheet.specs.Rows.NoRow.{next}
 use Rattle.sheet.specs.Record.{accepted}
 use Rattle.sheet.specs.Reading.{readSheet}
 use Rattle.sheet.specs.Job.{jobOf}
 use Rattle.sheet.proofs.ReadLaws.{valid-iff-accepted}
 use Rattle.settlements.specs.Settle.{Settlement, settleOf}
-use Rattle.settlements.specs.Batch.{jobCount, Batch, jobRows, batchOf}
+use Rattle.settlements.specs.Batch.{jobCount, Batch, batchOf}
 use Rattle.settlements.proofs.SettleLaws.{Startable, settle-zero}
 use Rattle.settlements.proofs.BatchLaws.{batch-zero}
-use Rattle.demands.specs.Demand1.{lineOf, answerOf, jobLineRows}
+use Rattle.demands.specs.Demand1.{lineOf, answerOf}
 use Rattle.demands.specs.Demand3.{Settles, runOf}
-use Rattle.demands.specs.Kept.{Kept, JobKept}
-use Rattle.demands.proofs.Fit.{job-fit, SettleFit, settle-fit, BatchFit, batch-fit}
+use Rattle.demands.specs.Kept.{Kept, JobLineKept}
+use Rattle.demands.proofs.Fit.{SettleFit, settle-fit, job-line-fit, BatchFit, batch-fit}
 use Rattle.demands.proofs.Demand1.{demand1-job}
 use Rattle.demands.proofs.Demand2.{demand2-settle, demand2-job}
 use Rattle.demands.proofs.Demand3.{demand3-settle, demand3-job}
@@ -53,19 +50,22 @@ module _ (sheet : List ℕ) {N : Net} (reads : readSheet sheet ≡ accepted N) w
         passes = demand2-settle s R T (fit .r-room) (fit .t-room);
       })
 
-  pub job-kept-on : (A B q n : ℕ) (jobs results answers : List ℕ) {S : Batch} → batchOf N jobs results answers ≡ S → S .answer .number ≡ 0
-      → n < jobCount jobs → jobOf (lineOf n jobs) ≡ Asked A B q → at (answerOf n (S .buffers .answers)) 0 ≡ 0 → JobKept sheet N A B q n S
-  job-kept-on A B q n jobs results answers e ok h asked job-ok =
+  pub job-kept-on : (n : ℕ) (jobs results answers : List ℕ) {S : Batch} → batchOf N jobs results answers ≡ S → S .answer .number ≡ 0
+      → n < jobCount jobs → at (answerOf n (S .buffers .answers)) 0 ≡ 0 → JobLineKept sheet N jobs n S
+  job-kept-on n jobs results answers e ok h job-ok =
       let whole = ap (λ (b : Batch). b .answer .number) e ∙ ok in
-      let fit = batch-fits N jobs results answers whole in
+      let room = batch-fits N jobs results answers whole in
       let number = ap (λ (b : Batch). at (answerOf n (b .buffers .answers)) 0) e ∙ job-ok in
-      let passed = rw asked at (demand1-job N jobs results answers n h whole .answered .fit .0 number) in
-      let s = settles-of (fit .c1) (job-fit N A B q (rows-of passed)) in
-      let promise = demand3-job s jobs results answers n h asked (fit .results-room) (fit .answers-room) in
-      subst (JobKept sheet N A B q n) e (record { settles = s; promise = promise; passes = demand2-job s promise })
-    where
-      rows-of : NoRow (jobLineRows N (Asked A B q)) → NoRow (jobRows N A B q)
-      rows-of (next _ f) = f
+      let fit = job-line-fit N (jobOf (lineOf n jobs)) (demand1-job N jobs results answers n h whole .answered .fit .0 number) in
+      let s = settles-of (room .c1) (fit .startable) in
+      let promise = demand3-job s jobs results answers n h (fit .asked) (room .results-room) (room .answers-room) in
+      subst (JobLineKept sheet N jobs n) e (record {
+        A = fit .A;
+        B = fit .B;
+        q = fit .q;
+        asked = fit .asked;
+        kept = record { settles = s; promise = promise; passes = demand2-job s promise };
+      })
 
 -- WHOEVER IS ANSWERED 0: the record is one that some sheet gives, and on it all is kept
 pub settle-kept : (N : Net) (A B q : ℕ) (R T : List ℕ) {S : Settlement} → settleOf N A B q R T ≡ S → S .answer .number ≡ 0
@@ -75,11 +75,11 @@ settle-kept N A B q R T e ok =
     (read .0, settle-kept-on (read .0) (read .1) A B q R T e ok)
 
 -- the batch is answered 0, and the job's own number is 0
-pub job-kept : (N : Net) (A B q n : ℕ) (jobs results answers : List ℕ) {S : Batch} → batchOf N jobs results answers ≡ S → S .answer .number ≡ 0
-    → n < jobCount jobs → jobOf (lineOf n jobs) ≡ Asked A B q → at (answerOf n (S .buffers .answers)) 0 ≡ 0 → (sheet : List ℕ) × JobKept sheet N A B q n S
-job-kept N A B q n jobs results answers e ok h asked job-ok =
+pub job-kept : (N : Net) (n : ℕ) (jobs results answers : List ℕ) {S : Batch} → batchOf N jobs results answers ≡ S → S .answer .number ≡ 0
+    → n < jobCount jobs → at (answerOf n (S .buffers .answers)) 0 ≡ 0 → (sheet : List ℕ) × JobLineKept sheet N jobs n S
+job-kept N n jobs results answers e ok h job-ok =
     let read = valid-iff-accepted N .0 (batch-fits N jobs results answers (ap (λ (b : Batch). b .answer .number) e ∙ ok) .is-valid) in
-    (read .0, job-kept-on (read .0) (read .1) A B q n jobs results answers e ok h asked job-ok)
+    (read .0, job-kept-on (read .0) (read .1) n jobs results answers e ok h job-ok)
 
 -- a binary value that is not against a binary signal equals it
 equals : (s v : ℕ) → s < 2 → v < 2 → ¬ Against s v → v ≡ s

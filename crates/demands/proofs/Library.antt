@@ -30,7 +30,7 @@ use Rattle.settlements.specs.Batch.{jobCount, jobWidth, answerWidth, Batch, bat
 use Rattle.output.specs.ForC.{SheetBatch, sheetBatch, sheetBatchOf}
 use Rattle.demands.specs.Demand1.{lineOf, answerOf}
 use Rattle.demands.specs.Demand3.{Settles, JobPromise}
-use Rattle.demands.specs.Kept.{JobKept}
+use Rattle.demands.specs.Kept.{JobLineKept}
 use Rattle.demands.specs.Library.{BatchNumber}
 use Rattle.demands.specs.Library.BatchNumber.{fit, unread, refused}
 use Rattle.demands.proofs.Demand3.{demand3-job}
@@ -58,12 +58,12 @@ module _ (sheet jobs results answers : List ℕ) where
 
   -- the call and the job are answered 0: h is that of the sheet's net, and on it all is kept
   pub sheet-job-kept : {S : SheetBatch} → sheetBatchOf sheet jobs results answers ≡ S → S .batch .answer .number ≡ 0
-      → (A B q n : ℕ) → n < jobCount jobs → jobOf (lineOf n jobs) ≡ Asked A B q → at (answerOf n (S .batch .buffers .answers)) 0 ≡ 0
-      → (S .keys ≡ keyCount (readSheet sheet .net)) × JobKept sheet (readSheet sheet .net) A B q n (S .batch)
-  sheet-job-kept {S} e ok A B q n h asked job-ok =
+      → (n : ℕ) → n < jobCount jobs → at (answerOf n (S .batch .buffers .answers)) 0 ≡ 0
+      → (S .keys ≡ keyCount (readSheet sheet .net)) × JobLineKept sheet (readSheet sheet .net) jobs n (S .batch)
+  sheet-job-kept {S} e ok n h job-ok =
       let reads = accepted-at-zero sheet (read-zero (ap (λ (x : SheetBatch). x .batch .answer .number) e ∙ ok)) in
       let same : sheetBatch (batchOf (readSheet sheet .net) jobs results answers) (keyCount (readSheet sheet .net)) ≡ S = sym (on-net reads) ∙ e in
-      (ap (λ (x : SheetBatch). x .keys) (sym same), job-kept-on sheet reads A B q n jobs results answers (ap (λ (x : SheetBatch). x .batch) same) ok h asked job-ok)
+      (ap (λ (x : SheetBatch). x .keys) (sym same), job-kept-on sheet reads n jobs results answers (ap (λ (x : SheetBatch). x .batch) same) ok h job-ok)
 
 -- ---- the numbers of the call
 

@@ -1,5 +1,5 @@
 -- Of the jobs, those that the program reads: which they are, and that their lines are as they were.
-use Prim.Native.Nat.{ℕ, _-_, _*_, _<_}
+use Prim.Native.Nat.{ℕ, _-_, _*_, _<_, min}
 use native.Mathlib.Omega.{arith}
 use mathlib.Core.Path.{_≡_, ap, _∙_}
 use mathlib.Core.Logic.{_↔_}
@@ -12,6 +12,10 @@ use Rattle.settlements.proofs.Parts.{drop-take}
 use Rattle.output.specs.Limits.{mostJobs}
 use Rattle.output.proofs.OutputLines.{linesRead}
 use Rattle.demands.specs.Demand1.{lineOf}
+
+pub read-jobs : (jobs : List ℕ) → jobCount (linesRead jobs) ≡ min mostJobs (jobCount jobs)
+unfolding jobCount
+read-jobs jobs = omega (arith, length-take (mostJobs * lineWidth) jobs)
 
 module _ (jobs : List ℕ) (n : ℕ) where
   pub read-iff : (n < jobCount (linesRead jobs)) ↔ ((n < mostJobs) × (n < jobCount jobs))

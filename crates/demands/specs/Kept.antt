@@ -1,9 +1,13 @@
 -- Demands 2 and 3 together, of one settling and of one job of a batch.
 use Prim.Native.Nat.{ℕ}
+use mathlib.Core.Path.{_≡_}
 use mathlib.Core.List.{List}
 use Rattle.net.specs.declared.Net.{Net}
+use Rattle.sheet.specs.declared.JobLine.the-variants.{Asked}
+use Rattle.sheet.specs.Job.{jobOf}
 use Rattle.settlements.specs.Settle.{Settlement}
 use Rattle.settlements.specs.Batch.{Batch}
+use Rattle.demands.specs.Demand1.{lineOf}
 use Rattle.demands.specs.Demand2.{SettlePasses, JobPasses}
 use Rattle.demands.specs.Demand3.{Settles, SettlePromise, JobPromise}
 
@@ -18,3 +22,11 @@ pub record JobKept (sheet : List ℕ) (N : Net) (A B q n : ℕ) (S : Batch) : Ty
   pub settles : Settles sheet N A B q
   pub promise : JobPromise N A B q n S
   pub passes : JobPasses N A B q n S
+
+-- the line of job n asks for two input states and a start, and for these all is kept
+pub record JobLineKept (sheet : List ℕ) (N : Net) (jobs : List ℕ) (n : ℕ) (S : Batch) : Type 0 where
+  pub A : ℕ
+  pub B : ℕ
+  pub q : ℕ
+  pub asked : jobOf (lineOf n jobs) ≡ Asked A B q
+  pub kept : JobKept sheet N A B q n S

@@ -1,10 +1,11 @@
--- The demands in the text that the program prints: what a job's line answers (demand 1), that no 0 or 1 of its r or t is against any run (demand 3), and
+-- The demands in the text that the program prints: what its first line and a job's line answer (demand 1), that no 0 or 1 of its r or t is against any run (demand 3), and
 -- what holds of every line whose answer is 0.
-use Prim.Native.Nat.{ℕ, suc, _≤_, _<_}
+use Prim.Native.Nat.{ℕ, suc, _+_, _*_, _≤_, _<_, min}
 use mathlib.Core.Path.{_≡_}
 use mathlib.Core.Logic.{_↔_}
+use mathlib.Core.Bool.{true, false}
 use mathlib.Core.List.{List, [], _∷_, _++_, map}
-use lib.ListN.{replicate}
+use lib.ListN.{length, take, replicate}
 use Rattle.ternary.specs.Bits.{bit}
 use Rattle.ternary.specs.Signal.{at}
 use Rattle.ternary.specs.Run.{Run, Step}
@@ -17,12 +18,22 @@ use Rattle.sheet.specs.Line.{writeNumber}
 use Rattle.sheet.specs.Rows.{First, NoRow}
 use Rattle.sheet.specs.Job.{jobOf}
 use Rattle.settlements.specs.Batch.{jobCount}
-use Rattle.output.specs.Limits.{mostJobs, hyphen}
+use Rattle.output.specs.declared.Judged.{Judged}
+use Rattle.output.specs.Limits.{mostJobs, openingBytes, jobBytes, hyphen}
+use Rattle.output.specs.Output.{firstLine, goesOn}
 use Rattle.output.specs.Text.{character}
 use Rattle.output.specs.Printed.{printedLine, printedNumbers, printedAnswer, printedR, printedT, AgainstPrinted}
-use Rattle.demands.specs.Demand1.{lineOf, jobLineRows}
+use Rattle.demands.specs.Demand1.{JudgedAnswers, lineOf, jobLineRows}
 use Rattle.demands.specs.Demand2.{SettledPasses}
 use Rattle.demands.specs.Demand3.{Settles, runOf}
+
+-- the text for the bytes of both files: its first line tells what the sheet is judged to be, the reader's rows coming first; where the program ends after
+-- that number it is the whole text; else there is a line for each job that is read, and nothing more
+pub record OutputAnswers (sheet jobs : List ℕ) (given : Judged) (output : List ℕ) : Type 0 where
+  pub judged-as : JudgedAnswers sheet given
+  pub first : take openingBytes output ≡ firstLine (given .answer) (given .keys)
+  pub ends : goesOn (given .answer .number) ≡ false → output ≡ firstLine (given .answer) (given .keys)
+  pub lines : goesOn (given .answer .number) ≡ true → length output ≡ openingBytes + min mostJobs (jobCount jobs) * jobBytes (given .keys)
 
 -- the line of job n, from 0: its answer is 0 exactly if no row of the job holds, and a number exactly if its row is the first that holds; the whole line is
 -- then the job's own number, that number, counts 0 and hyphens
