@@ -1,5 +1,5 @@
 #!/usr/bin/env python3
-"""Cases for the verdict and for the excitation of one vertex, with the answers that document 01 and the report ask for.
+"""Cases for the verdict, for the number of key nodes and for the excitation of one vertex, with the answers that document 01 and the report ask for.
 
 Each case has a note: the report's row or sentence, or document 01's, that its answer follows from. Running this file writes the input and the
 expected output of the test program `verdict_cases`. The expected answers are worked out here by hand; settle_model.py then works each of them out from
@@ -8,6 +8,7 @@ the definitions, except the verdict on a net that has too many states for it, an
 The kinds of cases, and what the program prints for each before the note:
   N  a sheet, kept for the cases that follow it: the reader's number and place;
   V  the verdict: number and place;
+  K  the number of key nodes: the number of the answer, and h;
   E  the excitation of one vertex: 0 and the value, or a number and 0;
   S  a state: the excitation of every vertex in order, one character each, a hyphen for an input vertex.
 
@@ -34,6 +35,12 @@ def verdict(refusal, place, note):
     case(b"V", field(refusal) + field(place), note)
 
 
+def key_nodes(refusal, count, note):
+    model = (0, len(NET.keys)) if NET else (41, 0)
+    assert (refusal, count) == model, (note, model)
+    case(b"K", field(refusal) + field(count), note)
+
+
 def excitation(refusal, value, note, asked_input, asked_key, asked_vertex):
     model = NET.excited(asked_input, asked_key, asked_vertex) if NET else (41, 0)
     assert (refusal, value) == model, (note, model)
@@ -56,6 +63,7 @@ state("--03", "a 1 b 1: z is 0; y is connected to nothing, it floats", 3)
 excitation(0, 2, "the bench example of document 01: the inner vertex at a 0 b 1", 2, 0, 4)
 excitation(0, 3, "the bench example of document 01: the inner vertex at a 1 b 1", 3, 0, 4)
 verdict(0, 0, "z is always connected to 0 or to 1 but not to both, and y is neither key node nor output")
+key_nodes(0, 0, "no storage vertex is a symbol: h is 0")
 net("the NOR gate with y as an output too", sheet(2, [ZERO, ONE, OUTPUT, OUTPUT], GATE))
 verdict(33, 4, "y is 2 at a 0 b 1; with no key node every state is stable")
 net("figure 7.1(a): the NOR gate with its n edge under a always closed",
@@ -72,6 +80,7 @@ state("--01", "a 1 b 0 is as before", 1)
 verdict(0, 0, "C3 allows an output at 3")
 
 net("NOR latch, figure 3.2: letters S R, key nodes and outputs Q bar 3 and Q 4, inner vertices y1 5 and y2 6", NOR_LATCH)
+key_nodes(0, 2, "Q bar and Q are symbols, the inner vertices are not: h is 2")
 state("--0111", "example 3.1, row 1: S 0 R 0, Q bar 0 Q 1, stable", 0, 2)
 state("--1011", "example 3.1, row 2: S 0 R 0, Q bar 1 Q 0, stable", 0, 1)
 state("--1013", "example 3.1, row 3: S 0 R 1, Q bar 1 Q 0, stable, y2 floats", 2, 1)
@@ -376,6 +385,7 @@ verdict(31, 4, "the lowest offending key vertex, not the first one met nor the f
 CHAIN = inverter(3, letter(8)) + [edge for y in range(4, 16) for edge in inverter(y, vertex(y - 1))]
 
 net("letter 8 and twelve key nodes, 3 to 14, each the inverse of the one before; output 15", sheet(8, [ZERO, ONE] + [STORAGE] * 12 + [OUTPUT], CHAIN))
+key_nodes(0, 12, "twelve pass: h is 12")
 state("--0101010101010", "letter 8 at 1: key 2730 is stable", 128, 2730)
 state("--1010101010101", "letter 8 at 0, all others at 1: key 1365 is stable", 127, 1365)
 state("--0000000000000", "input 255 and key 4095 are the last ones, not stable", 255, 4095)
@@ -405,10 +415,12 @@ verdict(33, 96, "the output at the far end is 2")
 
 net("no bytes", b"", 11, 0)
 verdict(41, 0, "row 41: a refused sheet gives the empty record, which no accepted sheet gives")
+key_nodes(41, 0, "row 41, and counts are 0 under a number")
 excitation(41, 0, "row 41", 0, 0, 1)
 excitation(41, 0, "41 before 42, 43 and 48", 4294967295, 4294967295, 4294967295)
 net("a sheet with a form 3 edge that has no partner", sheet(1, [ZERO, ONE, OUTPUT, STORAGE], [(2, 3, P_PRIMED, letter(1))]), 21, 6)
 verdict(41, 0, "row 41: refused by the graph rows, the record is empty too")
+key_nodes(41, 0, "row 41")
 excitation(41, 0, "row 41: vertex 3 was storage on the sheet", 0, 0, 3)
 
 net("the NOR latch again: two letters, two key nodes, storage vertices 3 to 6", NOR_LATCH)

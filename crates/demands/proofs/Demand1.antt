@@ -25,14 +25,16 @@ use Rattle.sheet.proofs.JobLaws.{job-number as line-refused}
 use Rattle.soundness.specs.declared.Excited.{Excited}
 use Rattle.soundness.specs.declared.Excited.the-variants.{Value, Refused as NoValue}
 use Rattle.soundness.specs.Excited.{excitationRows, excitedOf, excitedNumber, excitedPlace}
+use Rattle.soundness.specs.KeyNodes.{keyNodesOf}
 use Rattle.soundness.specs.Verdict.{verdictRows, verdictOf}
 use Rattle.soundness.proofs.ExcitedLaws.{excited-zero, excited-number}
+use Rattle.soundness.proofs.KeyNodesLaws.{nodes-zero, nodes-number, nodes-refused, nodes-fit}
 use Rattle.soundness.proofs.VerdictLaws.{verdict-zero, verdict-number}
 use Rattle.settlements.specs.Settle.{settleOf}
 use Rattle.settlements.specs.Batch.{jobCount, pieces, jobWidth, jobSettlement, runJobs, Batch, batchRows, batchOf}
 use Rattle.settlements.proofs.SettleLaws.{settle-zero, settle-number, settle-refused}
 use Rattle.settlements.proofs.BatchLaws.{vectorsOf, answerBytes, settlementAt, results-at, answers-at, results-rest, answers-rest, length-pieces, piece-at, batch-zero, batch-number, batch-refused}
-use Rattle.demands.specs.Demand1.{Answers, SheetAnswers, SettleAnswers, BatchAnswers, lineOf, resultOf, answerOf, JobAnswers}
+use Rattle.demands.specs.Demand1.{Answers, SheetAnswers, KeyNodesAnswers, SettleAnswers, BatchAnswers, lineOf, resultOf, answerOf, JobAnswers}
 use Rattle.demands.proofs.Fit.{batch-fit}
 use Rattle.demands.proofs.JobRows.{job-answers, job-untouched}
 use Rattle.demands.proofs.Unplaced.{Unplaced, no-row, a-row, by-number}
@@ -62,10 +64,17 @@ demand1-line sheet n = (line-found sheet n, line-missing sheet n, line-empty she
 pub demand1-job-line : (line : List ℕ) → (jobNumber (jobOf line) ≡ 46) ↔ ((A B q : ℕ) → ¬ JobBytes line A B q)
 demand1-job-line = line-refused
 
--- ---- the verdict, and the excitation of one vertex
+-- ---- the verdict, the number of key nodes, and the excitation of one vertex
 
 pub demand1-verdict : (N : Net) → Answers (verdictRows N) (verdictOf N)
 demand1-verdict N = record { fit = verdict-zero N; wrong = verdict-number N }
+
+pub demand1-key-nodes : (N : Net) → KeyNodesAnswers N (keyNodesOf N)
+demand1-key-nodes N = record {
+  answered = record { fit = nodes-zero N; wrong = nodes-number N };
+  refused = nodes-refused N;
+  counted = nodes-fit N;
+}
 
 no-place : (e : Excited) → excitedPlace e ≡ 0
 no-place (Value v) = refl

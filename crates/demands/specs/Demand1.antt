@@ -18,6 +18,8 @@ use Rattle.sheet.specs.Rows.{answer, Row, row, First, NoRow}
 use Rattle.sheet.specs.Record.{refused, accepted}
 use Rattle.sheet.specs.SheetRows.{netOf, sheetRows}
 use Rattle.sheet.specs.Job.{jobOf, jobNumber}
+use Rattle.soundness.specs.declared.KeyNodes.{KeyNodes}
+use Rattle.soundness.specs.KeyNodes.{keyNodes, keyNodesRows}
 use Rattle.soundness.specs.Verdict.{verdictRows, verdictOf}
 use Rattle.settlements.specs.Settle.{Settlement, unsettled, settleRows}
 use Rattle.settlements.specs.Batch.{jobCount, jobWidth, answerWidth, jobRows, Batch, batched, batchRows, batchOf}
@@ -50,6 +52,12 @@ pub record SheetBatchAnswers (sheet jobs results answers : List ℕ) (given : Sh
       → given .batch ≡ batched (answer n p) results answers
   pub unread : (n p : ℕ) → First (sheetRows sheet) n p → given ≡ sheetBatch (batched (answer n p) results answers) 0
   pub read : NoRow (sheetRows sheet) → given ≡ sheetBatch (batchOf (netOf sheet) jobs results answers) (keyCount (netOf sheet))
+
+-- the number of key nodes of a record: h, or 0 under a number
+pub record KeyNodesAnswers (N : Net) (given : KeyNodes) : Type 0 where
+  pub answered : Answers (keyNodesRows N) (given .answer)
+  pub refused : (n p : ℕ) → First (keyNodesRows N) n p → given ≡ keyNodes (answer n p) 0
+  pub counted : NoRow (keyNodesRows N) → given ≡ keyNodes (answer 0 0) (keyCount N)
 
 -- settling: a refusal has counts 0 and leaves both buffers as they were
 pub record SettleAnswers (N : Net) (A B q : ℕ) (R T : List ℕ) (S : Settlement) : Type 0 where

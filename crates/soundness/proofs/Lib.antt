@@ -4,3 +4,4 @@ pub mod ExcitedSteps
 pub mod Examples
 pub mod ExcitedLaws
 pub mod VerdictLaws
+pub mod KeyNodesLaws

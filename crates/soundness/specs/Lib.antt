@@ -1,2 +1,3 @@
 pub mod Excited
 pub mod Verdict
+pub mod KeyNodes

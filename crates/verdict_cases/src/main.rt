@@ -1,4 +1,4 @@
-//! Runs the cases of standard input through the verdict and through the excitation of one vertex, and prints each answer beside the case's note.
+//! Runs the cases of standard input through the verdict, the number of key nodes and the excitation of one vertex, and prints each answer beside the case's note.
 //! tests/verdict_cases.py tells the layout of a case and where each expected answer comes from.
 
 ghost use Prim.Native.Nat.{_<_};
@@ -72,6 +72,14 @@ fn print_state(net: Net, input: u32, key: u32) {
     }
 }
 
+// The number of key nodes of a record: the number of its answer, and h.
+fn print_key_nodes(net: Net) {
+    let given = record_keys::key_nodes(net);
+    let answer = given.answer;
+    print_column(answer.number as u64);
+    print_column(given.count as u64);
+}
+
 // The answer of the case at a place, by its kind, for a sheet.
 fn print_answer(cases: &[u8], at: usize, sheet: &[u8])
     requires { ⌜ at < length (now cases) ⌝ }
@@ -84,6 +92,7 @@ fn print_answer(cases: &[u8], at: usize, sheet: &[u8])
     match cases[at] {
         b'N' => print_place(reading.answer),
         b'V' => print_place(verdict::verdict(net)),
+        b'K' => print_key_nodes(net),
         b'E' => print_excitation(net, input, key, vertex),
         _ => print_state(net, input, key),
     }
