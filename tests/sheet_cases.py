@@ -58,8 +58,9 @@ def read(number, place, note, data):
     case(b"S", field(number) + field(place) + field(1 if number == 0 else 0), note, data=data)
 
 
-def one_line(number, length, note, n, data):
-    case(b"L", field(number) + field(length), note, (n,), data)
+def one_line(number, part, note, n, data):
+    """The number of the call for line n, and the part that is handed back."""
+    case(b"L", field(number) + field(len(part)) + part, note, (n,), data)
 
 
 def job(answer, note, data):
@@ -145,13 +146,13 @@ read(21, 29, "several faults: 21 before 22", sheet(
     (1, 15, 14, 0, 1), (2, 1, 0, 0, 0), *[(2, v + 2, 1, 0, 0) for v in range(14)],
     *[(3, 1, v + 2, 0, 102 + v) for v in range(12)], (3, 1, 14, 2, 114), (3, 1, 15, 0, 115)))
 
-one_line(0, 21, "line 2 of nine", 2, worked())
-one_line(0, 21, "the last line", 9, worked())
-one_line(47, 0, "the first line is 1, so there is no line 0", 0, worked())
-one_line(47, 0, "no line 10", 10, worked())
-one_line(47, 0, "a line of 20 bytes is not full", 1, ONE[:20])
-one_line(0, 21, "what the bytes hold is not tested", 1, b"x" * 21)
-one_line(47, 0, "a largest number of four columns", 9999, worked())
+one_line(0, b"   2   1   0   0   0\n", "line 2 of nine", 2, worked())
+one_line(0, b"   3   4   1   0 103\n", "the last line", 9, worked())
+one_line(47, b"", "the first line is 1, so there is no line 0", 0, worked())
+one_line(47, b"", "no line 10", 10, worked())
+one_line(47, b"", "a line of 20 bytes is not full", 1, ONE[:20])
+one_line(0, b"x" * 21, "what the bytes hold is not tested", 1, b"x" * 21)
+one_line(47, b"", "a largest number of four columns", 9999, worked())
 
 job((0, 0, 1, 1), "4, A, B, q, 0", line(4, 0, 1, 1, 0))
 job((0, 9999, 9999, 9999), "any numbers of four columns", line(4, 9999, 9999, 9999, 0))

@@ -35,10 +35,12 @@ fn print_reading(sheet: &[u8]) {
     print_column(if record::is_record(net) { 1 } else { 0 });
 }
 
-// One line of a sheet: number, and how many bytes are handed back.
+// One line of a sheet: number, how many bytes are handed back, and these.
 fn print_line(sheet: &[u8], n: usize) {
+    let line = lines::line(sheet, n);
     print_column(lines::line_answer(sheet, n) as u64);
-    print_column(lines::line(sheet, n).len() as u64);
+    print_column(line.len() as u64);
+    io::write_all(STDOUT_FILENO, line);
 }
 
 // A job line: 0 and its three numbers, or 46 and zeros.
