@@ -77,7 +77,8 @@ uint32_t settle_verdict(const uint8_t *sheet, size_t sheet_bytes, uint32_t *plac
 /* Reads the sheet and runs all the jobs on its net. Returns
  *   a number of the reader, with its place, and h is 0;
  *   31 with its vertex, or 45 where a buffer is too short, and h is the number of key nodes;
- *   0, and h is the number of key nodes.
+ *   0, and h is the number of key nodes. C2 and C3 are not asked: a net whose verdict is 32 or 33 is settled as any other. Whoever must
+ *   not build on such a net asks settle_verdict first.
  * Under a number both buffers stay as they were. Under 0, job n (from 0) has SETTLE_ANSWER_BYTES of `answers` from n * SETTLE_ANSWER_BYTES
  * on, and SETTLE_RESULT_BYTES(h) of `results` from n * SETTLE_RESULT_BYTES(h) on, with key node 1 first in r and in t. A job that has a number
  * itself (42, 43, 44 or 46) has step counts 0 and leaves its part of `results` as it was. Bytes past the last job's stay as they were.

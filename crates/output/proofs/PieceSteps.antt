@@ -1,11 +1,9 @@
--- A piece: without room, without lines, and by the reader's answer.
+-- A piece, by the reader's answer.
 use Prim.Native.Nat.{ℕ, _≤_, _<_}
-use native.Mathlib.Omega.{arith}
-use mathlib.Core.Path.{_≡_, sym, _∙_}
-use mathlib.Core.List.{List, []}
+use mathlib.Core.Path.{_≡_, _∙_}
+use mathlib.Core.List.{List}
 use mathlib.Core.Logic.{_≢_}
 use lib.ListN.{length}
-use lib.Seq.{take-all, take-nil}
 use borrow.Author.Tests.{eq-eqb, ne-eqb}
 use Rattle.sheet.specs.declared.Reading.{Reading}
 use Rattle.sheet.specs.Reading.{readSheet}
@@ -13,19 +11,12 @@ use Rattle.output.specs.declared.Written.the-variants.{Short, Bytes}
 use Rattle.output.specs.Limits.{pieceBytes}
 use Rattle.output.specs.Output.{netText, jobsText}
 use Rattle.output.specs.Calls.{Report, report, put, readLines, pieceOf}
-use Rattle.output.proofs.Pieces.{jobs-none}
 use Rattle.output.proofs.Placed.{put-short, put-none}
 
 module _ (sheet : List ℕ) (n : ℕ) (lines out : List ℕ) where
   pub piece-short : length out < pieceBytes → report Short out ≡ pieceOf sheet n lines out
   unfolding pieceOf
   piece-short h = put-short Bytes pieceBytes (jobsText sheet n (readLines n lines)) out h
-
-  pub piece-empty : pieceBytes ≤ length out → length lines ≡ 0 → report (Bytes 0) out ≡ pieceOf sheet n lines out
-  unfolding pieceOf readLines
-  piece-empty room e =
-      let none : lines ≡ [] = sym (take-all 0 lines (omega arith)) in
-      put-none pieceBytes (jobsText sheet n (readLines n lines)) out room (rw (none, take-nil) (jobs-none sheet n))
 
   module _ (r : Reading) (read : r ≡ readSheet sheet) where
     pub piece-refused : pieceBytes ≤ length out → r .answer .number ≢ 0 → report (Bytes 0) out ≡ pieceOf sheet n lines out

@@ -16,10 +16,6 @@ pub fn piece<'a, 'b>(sheet: &'a [u8], first: u32, lines: &'a [u8], out: &'b mut 
     if out.len() < Report::PIECE_BYTES {
         return Written::Short;
     }
-    // No lines have no text, and nothing need be prepared for them.
-    if lines.len() == 0 {
-        return Written::Bytes(0);
-    }
     let reading = reader::read(sheet);
     let read = reading.answer;
     if read.number != 0 {

@@ -57,15 +57,23 @@ fn write_opening(sheet: &[u8]) -> Next {
     report_turns::after_opening(written, is_written)
 }
 
+// Writes the text of a piece of the jobs. Where there are no lines there is none, and no buffer is made for it.
+fn write_lines<'a>(sheet: &'a [u8], first: u32, lines: &'a [u8]) -> bool {
+    if lines.len() == 0 {
+        return true;
+    }
+    let mut out = piece_buffer();
+    let written = report_pieces::piece(sheet, first, lines, &mut out);
+    write_text(report_turns::written_part(written, &out))
+}
+
 // Reads the lines of a piece of the jobs and writes its text.
 fn write_piece(sheet: &[u8], jobs: i32, first: u32) -> Next
     ensures { λ r. ⌜ Onward first r ⌝ }
 {
     let mut lines = lines_buffer();
     let size = input::read(jobs, b"settle: jobs", &mut lines);
-    let mut out = piece_buffer();
-    let written = report_pieces::piece(sheet, first, &lines[..size], &mut out);
-    let is_written = write_text(report_turns::written_part(written, &out));
+    let is_written = write_lines(sheet, first, &lines[..size]);
     report_turns::after_piece(first, size, is_written)
 }
 

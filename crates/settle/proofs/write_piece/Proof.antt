@@ -18,29 +18,14 @@ slice-aggregate-read-2 c = search needs
 read-requires : tie.Need-read-requires
 read-requires c κs = search needs
 
-piece-buffer-requires : tie.Need-piece-buffer-requires
-piece-buffer-requires c κs = search needs
-
 array-share-prefix-lines : tie.Need-array-share-prefix-lines
 array-share-prefix-lines c = search needs
 
-slice-aggregate-piece : tie.Need-slice-aggregate-piece
-slice-aggregate-piece c = search needs
+slice-aggregate-write-lines : tie.Need-slice-aggregate-write-lines
+slice-aggregate-write-lines c = search needs
 
-slice-aggregate-piece-2 : tie.Need-slice-aggregate-piece-2
-slice-aggregate-piece-2 c = search needs
-
-piece-requires : tie.Need-piece-requires
-piece-requires c κs = search needs
-
-slice-aggregate-written-part : tie.Need-slice-aggregate-written-part
-slice-aggregate-written-part c = search needs
-
-written-part-requires : tie.Need-written-part-requires
-written-part-requires c κs = search needs
-
-write-text-requires : tie.Need-write-text-requires
-write-text-requires c κs = search needs
+write-lines-requires : tie.Need-write-lines-requires
+write-lines-requires c κs = search needs
 
 after-piece-requires : tie.Need-after-piece-requires
 after-piece-requires c κs = search needs
@@ -56,13 +41,8 @@ write-piece-spec =
     slice-aggregate-read
     slice-aggregate-read-2
     read-requires
-    piece-buffer-requires
     array-share-prefix-lines
-    slice-aggregate-piece
-    slice-aggregate-piece-2
-    piece-requires
-    slice-aggregate-written-part
-    written-part-requires
-    write-text-requires
+    slice-aggregate-write-lines
+    write-lines-requires
     after-piece-requires
     returns)
