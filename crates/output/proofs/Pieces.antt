@@ -1,12 +1,12 @@
 -- The lines of jobs after other jobs are the lines of the first and then those of the others.
-use Prim.Native.Nat.{ℕ, zero, suc, _+_, _-_, _*_, _≤_, min}
+use Prim.Native.Nat.{ℕ, zero, suc, _+_, _*_, min}
 use native.Mathlib.Nat.{zero-mul, suc-mul, zero-add, add-zero, suc-add, add-suc, add-mul, min-eq-left, min-eq-right}
 use native.Mathlib.Omega.{arith}
-use mathlib.Core.Path.{_≡_, refl, sym, ap, _∙_}
+use mathlib.Core.Path.{_≡_, sym, ap, _∙_}
 use mathlib.Core.List.{List, [], _++_, append-assoc, append-nil}
 use lib.Dec.{ltb}
 use lib.ListN.{length, take, drop, length-take, length-drop, length-replicate, take-append-drop, replicate-append-replicate, drop-of-length-le}
-use lib.Seq.{take-append-le, drop-append-le, take-all, take-take, take-nil, drop-drop, length-take-le}
+use lib.Seq.{take-append-le, drop-append-le, take-all, take-take, length-take-le}
 use borrow.Author.Tests.{ltb-true, ltb-false}
 use Rattle.ternary.proofs.Tests.{by-test}
 use Rattle.net.specs.declared.Net.{Net}
@@ -16,7 +16,6 @@ use Rattle.sheet.specs.Limits.{lineWidth}
 use Rattle.sheet.specs.Reading.{readSheet}
 use Rattle.settlements.specs.Batch.{jobCount, jobWidth, answerWidth, buffers}
 use Rattle.settlements.proofs.BatchLaws.{length-pieces}
-use Rattle.settlements.proofs.Parts.{drop-take}
 use Rattle.settlements.proofs.PieceLaws.{jobsOf}
 use Rattle.settlements.proofs.RunLaws.{run-append, count-whole, count-append, pieces-append}
 use Rattle.output.specs.Limits.{mostJobs}

@@ -1,6 +1,5 @@
 //! The bytes of a file. What cannot be opened or read is told on standard error, and counts as the end of the file.
 
-ghost use mathlib.Core.Path.{_≡_};
 ghost use Prim.Native.Nat.{_≤_};
 ghost use lib.ListN.{length};
 ghost use Rattle.io.specs.Counts.{Counts};

@@ -1,8 +1,7 @@
 -- `read_some` meets its contract: what was answered last is within the buffer.
 use Prim.Native.Nat.{_-_, _≤_}
-use mathlib.Core.Path.{_≡_, sym, _∙_}
+use mathlib.Core.Path.{_≡_}
 use lib.ListN.{length}
-use native.Mathlib.Omega.{arith}
 use borrow.Author.Needs.{needs}
 use Rattle.settle.specs.Input.{Within}
 use Rattle.settle.proofs.input.read_some.Statement.{statement}
