@@ -27,7 +27,8 @@ following (Last n) = End
 unfoldable pub afterOpening : Bool → Written → Next
 afterOpening written w = cond written (following w) End
 
--- after the piece from job n on, of which so many bytes could be read: the next one, if the text could be written, the piece was full, and not all jobs that are read are done
+-- after the piece from job n on, of which so many bytes could be read: the next one, if the text could be written, the piece was full, and not all jobs that
+-- are read are done
 unfoldable pub afterPiece : Bool → ℕ → ℕ → Next
 afterPiece written n size = cond (not written || ltb size pieceLines || ltb mostJobs (n + pieceJobs)) End (Piece (n + pieceJobs))
 

@@ -30,7 +30,7 @@ fn most_bytes(first: u32) -> usize
     }
     let left = Report::MOST_JOBS + 1 - number;
     if Report::PIECE_JOBS < left {
-        return Report::PIECE_JOBS * Sheet::LINE_WIDTH;
+        return Report::PIECE_LINES;
     }
     left * Sheet::LINE_WIDTH
 }

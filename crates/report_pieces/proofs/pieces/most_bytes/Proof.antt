@@ -14,18 +14,15 @@ add-left c = search needs
 sub-left : tie.Need-sub-left
 sub-left c = search needs
 
-mul-result : tie.Need-mul-result
-mul-result c = search needs
-
 returns-2 : tie.Need-returns-2
 returns-2 c = piece-left (c .before .before .args .first) (omega arith)
 
-mul-result-2 : tie.Need-mul-result-2
-mul-result-2 c = search needs
+mul-result : tie.Need-mul-result
+mul-result c = search needs
 
 returns-3 : tie.Need-returns-3
 returns-3 c = few-left (c .before .before .args .first) (omega arith)
 
 pub most-bytes-spec : {M : Type 1} → statement M
 most-bytes-spec =
-    tie.close (tie.spec returns add-left sub-left mul-result returns-2 mul-result-2 returns-3)
+    tie.close (tie.spec returns add-left sub-left returns-2 mul-result returns-3)
