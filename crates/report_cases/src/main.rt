@@ -85,11 +85,11 @@ fn print_opening(sheet: &[u8]) {
 // The lines of the piece that begins with this job, counted from 1: as many as a piece has, or all that are left.
 fn lines_from(jobs: &[u8], first: u32) -> &[u8] {
     let size = jobs.len();
-    let before = first as usize;
-    if before == 0 {
+    let number = first as usize;
+    if number == 0 {
         return &jobs[0..0];
     }
-    let at = (before - 1) * Sheet::LINE_WIDTH;
+    let at = (number - 1) * Sheet::LINE_WIDTH;
     if size < at {
         return &jobs[0..0];
     }

@@ -1,16 +1,26 @@
 -- `with_entry` meets its contract. Which place there is follows from what the entry is.
 use Prim.Native.Nat.{_-_, _≤_, _<_}
 use native.Mathlib.Omega.{arith}
+use mathlib.Core.Path.{subst}
 use borrow.Author.Needs.{needs}
 use Rattle.net.specs.Limits.{mostVertices, mostEdges}
+use Rattle.sheet.specs.Entries.{HasPlace}
 use Rattle.reader.proofs.body.with_entry.Statement.{statement}
 use Rattle.reader.proofs.body.with_entry.Tie as tie
 
-vertex-place : (c : tie.After-known-told) → c .before .before .before .args .j < mostVertices
-vertex-place c = let start = c .before .before .before in rw (c .before .entry .given .1) at (start .pre)
+-- the start of the function, from where the entry is known to be a vertex, and from where it is known to be an edge
+abbrev vertex-start : tie.After-known-told → tie.Start
+vertex-start c = c .before .before .before
 
-edge-place : (c : tie.After-struct-known) → (c .before .before .before .before .args .net .«vertex_count» ≤ c .before .before .before .before .args .j) × (c .before .before .before .before .args .j - c .before .before .before .before .args .net .«vertex_count» < mostEdges)
-edge-place c = let start = c .before .before .before .before in rw (c .before .before .entry2 .given .1) at (start .pre)
+abbrev edge-start : tie.After-struct-known → tie.Start
+edge-start c = c .before .before .before .before
+
+vertex-place : (c : tie.After-known-told) → vertex-start c .args .j < mostVertices
+vertex-place c = subst (HasPlace _ _) (c .before .entry .given .1) (vertex-start c .pre)
+
+edge-place : (c : tie.After-struct-known) → let net = edge-start c .args .net in
+    (net .«vertex_count» ≤ edge-start c .args .j) × (edge-start c .args .j - net .«vertex_count» < mostEdges)
+edge-place c = subst (HasPlace _ _) (c .before .before .entry2 .given .1) (edge-start c .pre)
 
 enum-known-entry : tie.Need-enum-known-entry
 enum-known-entry c = search needs
