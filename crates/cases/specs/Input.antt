@@ -1,5 +1,5 @@
 -- What the test programs read off their input.
-use Prim.Native.Nat.{ℕ, _+_, _*_}
+use Prim.Native.Nat.{ℕ, _+_, _*_, _^_}
 use mathlib.Core.Bool.{cond}
 use mathlib.Core.List.{List, []}
 use mathlib.Core.Option.{Option, none, some}
@@ -23,9 +23,9 @@ numberAt b at = numberOf (readField fieldWidth (partOf b at fieldWidth))
 
 -- the numbers that a field can hold are those below this
 abbrev pub fieldBase : ℕ
-fieldBase = 10000
+fieldBase = 10 ^ fieldWidth
 
--- the number in three fields, each the next four digits
+-- the number in three fields, each the next digits of it
 unfoldable pub threeFields : List ℕ → ℕ → ℕ
 threeFields b at = (numberAt b at * fieldBase + numberAt b (at + fieldWidth)) * fieldBase + numberAt b (at + 2 * fieldWidth)
 

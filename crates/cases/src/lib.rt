@@ -1,7 +1,8 @@
-//! How a case of the test programs is laid out in their input. Each number has three fields of four columns. A case may bring the sheet for the cases after
-//! it, or a note that is printed as it stands.
+//! How a case of the test programs is laid out in their input. Each number has three fields. A case may bring the sheet for the cases after it, or a note
+//! that is printed as it stands. Numbers of their answers have a field each.
 
 ghost use mathlib.Core.Path.{_≡_};
+ghost use Rattle.sheet.specs.Line.{writeNumber};
 ghost use Rattle.cases.specs.Input.{partOf, numberAt, threeFields, largeAt, dataOf, nextOf};
 use sheet::Field;
 use sheet::Sheet;
@@ -52,17 +53,17 @@ fn part(input: &[u8], at: usize, n: usize) -> &[u8]
     &input[at..end]
 }
 
-// The number in four columns at a place of the input; 0 where there is none.
-fn number_at(input: &[u8], at: usize) -> u16
+// The number whose field stands at a place of the input; 0 where none does.
+fn number_at(input: &[u8], at: usize) -> u32
     ensures { λ r. ⌜ r ≡ numberAt (now (input .entry)) at ⌝ }
 {
-    match fields::read_field(part(input, at, Sheet::FIELD_WIDTH)) {
+    match fields::read_field(part(input, at, Sheet::FIELD_WIDTH), Sheet::FIELD_WIDTH) {
         Field::Number(n) => n,
         Field::Refused => 0,
     }
 }
 
-// The number in three fields, each the next four digits.
+// The number in three fields, each the next digits of it.
 fn three_fields(input: &[u8], at: usize) -> u64
     ensures { λ r. ⌜ r ≡ threeFields (now (input .entry)) at ⌝ }
 {
@@ -111,4 +112,13 @@ pub fn next_case(input: &[u8], at: usize) -> usize
         return next;
     }
     end
+}
+
+// A number in the columns of a field, for an answer.
+pub fn number_text(n: u64) -> [u8; Sheet::FIELD_WIDTH]
+    ensures { λ r. ⌜ r ≡ writeNumber n ⌝ }
+{
+    let mut text = [0; Sheet::FIELD_WIDTH];
+    fields::write_field(&mut text, n);
+    text
 }

@@ -1,4 +1,5 @@
 -- Demand 1 of each call, by the laws of its definition.
+use native.Mathlib.Omega.{arith}
 use Prim.Native.Nat.{ℕ, _*_, _≤_, _<_}
 use mathlib.Core.Path.{_≡_, refl, sym, ap, subst, _∙_}
 use mathlib.Core.Bool.{true, not}
@@ -8,6 +9,7 @@ use lib.ListN.{length, take-append-drop}
 use Rattle.net.specs.declared.Net.{Net}
 use Rattle.net.specs.Graph.{isStorage, keyCount}
 use Rattle.net.specs.Network.{isInputState, isKeyState}
+use Rattle.sheet.specs.Limits.{fieldWidth}
 use Rattle.sheet.specs.declared.JobLine.{JobLine}
 use Rattle.sheet.specs.Rows.{answer, Row, NoRow}
 use Rattle.sheet.specs.Record.{accepted}
@@ -43,26 +45,26 @@ use Rattle.demands.proofs.Unplaced.{Unplaced, no-row, a-row, by-number}
 
 pub demand1-sheet : (sheet : List ℕ) → SheetAnswers sheet (readSheet sheet)
 demand1-sheet sheet = record {
-  answered = record { fit = sheet-zero sheet; wrong = sheet-number sheet };
-  empty = sheet-refused sheet;
-  read = sheet-accepted sheet;
+  answered = record { fit = sheet-zero fieldWidth sheet; wrong = sheet-number fieldWidth sheet };
+  empty = sheet-refused fieldWidth sheet;
+  read = sheet-accepted fieldWidth sheet;
 }
 
 pub demand1-listed : (sheet : List ℕ) → Outcome (readSheet sheet)
-demand1-listed = outcome
+demand1-listed = outcome fieldWidth
 
 -- number 41 is for the records that no accepted sheet gives
 pub demand1-record : (N : Net) → (valid N ≡ true) ↔ ((sheet : List ℕ) × (readSheet sheet ≡ accepted N))
-demand1-record = valid-iff-accepted
+demand1-record = valid-iff-accepted fieldWidth (omega arith)
 
 -- one line of a sheet: 0, or 47 and an empty part
 pub demand1-line : (sheet : List ℕ) (n : ℕ)
     → ((lineNumber sheet n ≡ 0) ↔ FullLine sheet n) × ((lineNumber sheet n ≡ 47) ↔ (¬ FullLine sheet n)) × ((¬ FullLine sheet n) → sheetLine sheet n ≡ [])
-demand1-line sheet n = (line-found sheet n, line-missing sheet n, line-empty sheet n)
+demand1-line sheet n = (line-found fieldWidth sheet n, line-missing fieldWidth sheet n, line-empty fieldWidth sheet n)
 
 -- a job line: 46 exactly if it is not the bytes of 4, A, B, q, 0
 pub demand1-job-line : (line : List ℕ) → (jobNumber (jobOf line) ≡ 46) ↔ ((A B q : ℕ) → ¬ JobBytes line A B q)
-demand1-job-line = line-refused
+demand1-job-line = line-refused fieldWidth (omega arith)
 
 -- ---- the verdict, the number of key nodes, and the excitation of one vertex
 

@@ -18,6 +18,7 @@ use Rattle.net.specs.Known.{Known}
 use Rattle.net.specs.Ternary.{settled}
 use Rattle.net.proofs.Connected.{excitation-0, excitation-1, excitation-2, excitation-3}
 use Rattle.net.proofs.TernaryLaws.{first-pass-unknown, second-pass-unknown}
+use Rattle.sheet.specs.Limits.{fieldWidth}
 use Rattle.sheet.specs.Rows.{answer}
 use Rattle.sheet.specs.Record.{accepted}
 use Rattle.sheet.specs.Reading.{readSheet}
@@ -41,7 +42,7 @@ use Rattle.demands.proofs.Demand3.{premises, startable, is-valid}
 
 module _ (sheet : List ℕ) (N : Net) (reads : readSheet sheet ≡ accepted N) where
   ok : valid N ≡ true
-  ok = read-valid sheet N reads
+  ok = read-valid fieldWidth sheet N reads
 
   -- the excitation of one vertex, in every clean state
   pub demand2-excitation : (a q y : ℕ) → Clean N a q → isStorage N y ≡ true → (v : ℕ) × (excitedOf N a q y ≡ Value v) × ExcitationMeans N a q y v

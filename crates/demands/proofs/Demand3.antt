@@ -14,6 +14,7 @@ use Rattle.net.specs.declared.Net.{Net}
 use Rattle.net.specs.Graph.{keyCount}
 use Rattle.net.specs.Network.{network}
 use Rattle.net.specs.Ternary.{settled}
+use Rattle.sheet.specs.Limits.{fieldWidth}
 use Rattle.sheet.specs.declared.JobLine.the-variants.{Asked}
 use Rattle.sheet.specs.Rows.{answer}
 use Rattle.sheet.specs.Valid.{valid}
@@ -35,7 +36,7 @@ module _ {sheet : List ℕ} {N : Net} {A B q : ℕ} (s : Settles sheet N A B q) 
   startable = record { old = record { input = s .old; key = s .key }; new = record { input = s .new; key = s .key }; rest = s .rest }
 
   pub is-valid : valid N ≡ true
-  is-valid = read-valid sheet N (s .reads)
+  is-valid = read-valid fieldWidth sheet N (s .reads)
 
   -- buffers that hold the passes' vectors keep the promise
   holds-promise : {r t : List ℕ} → Holds N A B q r t → Promise N A B q 0 (settled N A B q .secondSteps) r t

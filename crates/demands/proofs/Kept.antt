@@ -15,7 +15,6 @@ use Rattle.net.specs.WellFormed.{C1}
 use Rattle.sheet.specs.Record.{accepted}
 use Rattle.sheet.specs.Reading.{readSheet}
 use Rattle.sheet.specs.Job.{jobOf}
-use Rattle.sheet.proofs.ReadLaws.{valid-iff-accepted}
 use Rattle.settlements.specs.Settle.{Settlement, settleOf}
 use Rattle.settlements.specs.Batch.{jobCount, Batch, batchOf}
 use Rattle.settlements.proofs.SettleLaws.{Startable, settle-zero}
@@ -24,7 +23,7 @@ use Rattle.demands.specs.Demand1.{lineOf, answerOf}
 use Rattle.demands.specs.Demand3.{Settles, runOf}
 use Rattle.demands.specs.Kept.{Kept, JobLineKept}
 use Rattle.demands.proofs.Fit.{SettleFit, settle-fit, job-line-fit, BatchFit, batch-fit}
-use Rattle.demands.proofs.Demand1.{demand1-job}
+use Rattle.demands.proofs.Demand1.{demand1-record, demand1-job}
 use Rattle.demands.proofs.Demand2.{demand2-settle, demand2-job}
 use Rattle.demands.proofs.Demand3.{demand3-settle, demand3-job}
 
@@ -71,14 +70,14 @@ module _ (sheet : List ℕ) {N : Net} (reads : readSheet sheet ≡ accepted N) w
 pub settle-kept : (N : Net) (A B q : ℕ) (R T : List ℕ) {S : Settlement} → settleOf N A B q R T ≡ S → S .answer .number ≡ 0
     → (sheet : List ℕ) × Kept sheet N A B q R T S
 settle-kept N A B q R T e ok =
-    let read = valid-iff-accepted N .0 (settle-fits N A B q R T e ok .is-valid) in
+    let read = demand1-record N .0 (settle-fits N A B q R T e ok .is-valid) in
     (read .0, settle-kept-on (read .0) (read .1) A B q R T e ok)
 
 -- the batch is answered 0, and the job's own number is 0
 pub job-kept : (N : Net) (n : ℕ) (jobs results answers : List ℕ) {S : Batch} → batchOf N jobs results answers ≡ S → S .answer .number ≡ 0
     → n < jobCount jobs → at (answerOf n (S .buffers .answers)) 0 ≡ 0 → (sheet : List ℕ) × JobLineKept sheet N jobs n S
 job-kept N n jobs results answers e ok h job-ok =
-    let read = valid-iff-accepted N .0 (batch-fits N jobs results answers (ap (λ (b : Batch). b .answer .number) e ∙ ok) .is-valid) in
+    let read = demand1-record N .0 (batch-fits N jobs results answers (ap (λ (b : Batch). b .answer .number) e ∙ ok) .is-valid) in
     (read .0, job-kept-on (read .0) (read .1) n jobs results answers e ok h job-ok)
 
 -- a binary value that is not against a binary signal equals it

@@ -13,6 +13,7 @@ use Rattle.ternary.specs.Signal.{at}
 use Rattle.ternary.proofs.Tests.{cond-by}
 use Rattle.net.specs.declared.Net.{Net}
 use Rattle.net.specs.Graph.{keyCount}
+use Rattle.sheet.specs.Limits.{fieldWidth}
 use Rattle.sheet.specs.declared.Answer.{Answer}
 use Rattle.sheet.specs.declared.JobLine.the-variants.{Asked}
 use Rattle.sheet.specs.declared.Reading.{Reading}
@@ -61,7 +62,7 @@ module _ (sheet jobs results answers : List ℕ) where
       → (n : ℕ) → n < jobCount jobs → at (answerOf n (S .batch .buffers .answers)) 0 ≡ 0
       → (S .keys ≡ keyCount (readSheet sheet .net)) × JobLineKept sheet (readSheet sheet .net) jobs n (S .batch)
   sheet-job-kept {S} e ok n h job-ok =
-      let reads = accepted-at-zero sheet (read-zero (ap (λ (x : SheetBatch). x .batch .answer .number) e ∙ ok)) in
+      let reads = accepted-at-zero fieldWidth sheet (read-zero (ap (λ (x : SheetBatch). x .batch .answer .number) e ∙ ok)) in
       let same : sheetBatch (batchOf (readSheet sheet .net) jobs results answers) (keyCount (readSheet sheet .net)) ≡ S = sym (on-net reads) ∙ e in
       (ap (λ (x : SheetBatch). x .keys) (sym same), job-kept-on sheet reads n jobs results answers (ap (λ (x : SheetBatch). x .batch) same) ok h job-ok)
 
@@ -94,5 +95,5 @@ module _ (sheet jobs results answers : List ℕ) where
   unfolding sheetBatchOf
   sheet-batch-number =
       cond-by (λ (S : SheetBatch). BatchNumber (S .batch .answer)) (eqb (readSheet sheet .answer .number) 0)
-      (λ t. run-number (readSheet sheet .net) (valid-at-zero sheet (readSheet sheet) refl (eqb-true (readSheet sheet .answer .number) 0 t)))
-      (λ _. read-number (outcome sheet))
+      (λ t. run-number (readSheet sheet .net) (valid-at-zero fieldWidth sheet (readSheet sheet) refl (eqb-true (readSheet sheet .answer .number) 0 t)))
+      (λ _. read-number (outcome fieldWidth sheet))

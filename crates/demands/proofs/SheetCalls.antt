@@ -5,6 +5,7 @@ use mathlib.Core.Bool.{true}
 use mathlib.Core.List.{List, _++_}
 use Rattle.net.specs.declared.Net.{Net}
 use Rattle.net.specs.Graph.{keyCount}
+use Rattle.sheet.specs.Limits.{fieldWidth}
 use Rattle.sheet.specs.declared.Answer.{Answer}
 use Rattle.sheet.specs.Rows.{answer, Row, firstRow, byRows, answered}
 use Rattle.sheet.specs.SheetRows.{netOf, sheetRows}
@@ -32,7 +33,7 @@ module _ (sheet : List ℕ) where
 
   judged-by-rows : judgedOf sheet ≡ byRows (sheetRows sheet) (judged (verdictOf N) (keyCount N)) (λ a. judged a 0)
   unfolding judgedOf
-  judged-by-rows = read-then sheet (λ M. judged (verdictOf M) (keyCount M)) (λ a. judged a 0)
+  judged-by-rows = read-then fieldWidth sheet (λ M. judged (verdictOf M) (keyCount M)) (λ a. judged a 0)
 
   judged-answer : judgedOf sheet .answer ≡ answered (firstRow (sheetRows sheet ++ verdictRows N))
   unfolding verdictOf
@@ -46,7 +47,7 @@ module _ (sheet : List ℕ) where
   pub demand1-judged : JudgedAnswers sheet (judgedOf sheet)
   unfolding verdictRows positive
   demand1-judged = record {
-    answered = answers-by (sheetRows sheet ++ verdictRows N) (positive-append (sheetRows sheet) (verdictRows N) (sheet-positive sheet) refl) judged-answer;
+    answered = answers-by (sheetRows sheet ++ verdictRows N) (positive-append (sheetRows sheet) (verdictRows N) (sheet-positive fieldWidth sheet) refl) judged-answer;
     unread = λ n p f. judged-by-rows ∙ by-rows-first (sheetRows sheet) _ _ n p f;
     read = λ f. judged-by-rows ∙ by-rows-fit (sheetRows sheet) _ _ f;
   }
@@ -66,7 +67,7 @@ module _ (sheet : List ℕ) where
     batch-by-rows : sheetBatchOf sheet jobs results answers
         ≡ byRows (sheetRows sheet) (sheetBatch (batchOf N jobs results answers) (keyCount N)) (λ a. sheetBatch (refuse a) 0)
     unfolding sheetBatchOf
-    batch-by-rows = read-then sheet (λ M. sheetBatch (batchOf M jobs results answers) (keyCount M)) (λ a. sheetBatch (refuse a) 0)
+    batch-by-rows = read-then fieldWidth sheet (λ M. sheetBatch (batchOf M jobs results answers) (keyCount M)) (λ a. sheetBatch (refuse a) 0)
 
     batch-by-all : sheetBatchOf sheet jobs results answers .batch ≡ byRows (sheetRows sheet ++ rows) ran refuse
     unfolding batchOf
@@ -79,7 +80,7 @@ module _ (sheet : List ℕ) where
     unfolding batchRows positive
     demand1-sheet-batch = record {
       answered =
-          answers-by (sheetRows sheet ++ rows) (positive-append (sheetRows sheet) rows (sheet-positive sheet) refl)
+          answers-by (sheetRows sheet ++ rows) (positive-append (sheetRows sheet) rows (sheet-positive fieldWidth sheet) refl)
           (ap (λ (s : Batch). s .answer) batch-by-all ∙ by-rows-answer (sheetRows sheet ++ rows) ran refuse (λ (s : Batch). s .answer) refl (λ a. refl));
       untouched = λ n p f. batch-by-all ∙ by-rows-first (sheetRows sheet ++ rows) ran refuse n p f;
       unread = λ n p f. batch-by-rows ∙ by-rows-first (sheetRows sheet) _ _ n p f;

@@ -69,7 +69,7 @@ demand1-text sheet {N} reads c1 jobs n few h = record {
     three = answerOf n (batchFor N (linesRead jobs) .buffers .answers)
 
     job : JobAnswers N (linesRead jobs) (replicate (jobCount (linesRead jobs) * jobWidth N) 0) n (batchFor N (linesRead jobs))
-    job = demand1-job N (linesRead jobs) _ _ n read (batch-iff N (linesRead jobs) .1 (read-valid sheet N reads, place))
+    job = demand1-job N (linesRead jobs) _ _ n read (batch-iff N (linesRead jobs) .1 (read-valid fieldWidth sheet N reads, place))
 
     answered : Answers rows (answer (at three 0) 0)
     answered = rw (read-line jobs n few) at (job .answered)

@@ -2,13 +2,12 @@
 
 ghost use mathlib.Core.Path.{_≡_};
 ghost use mathlib.Core.Bool.{cond};
-ghost use Prim.Native.Nat.{_+_, _-_, _%_};
+ghost use Prim.Native.Nat.{_+_, _-_, _%_, _≤_};
 ghost use lib.Dec.{eqb};
 ghost use lib.ListN.{length};
 ghost use Rattle.ternary.specs.Lists.{same};
-ghost use Rattle.sheet.specs.Limits.{fieldWidth, blank, digitZero};
+ghost use Rattle.sheet.specs.Limits.{mostColumns, blank, digitZero};
 ghost use Rattle.sheet.specs.Field.{fieldValue, writeField, readField, fieldAnswer};
-ghost use Rattle.sheet.specs.Line.{writeNumber};
 use sheet::Field;
 use sheet::Sheet;
 
@@ -27,11 +26,12 @@ fn digit(column: u8) -> u64
 
 // The number in the columns, whatever bytes they hold.
 fn value(b: &[u8]) -> u64
-    requires { ⌜ length (now b) ≡ fieldWidth ⌝ }
+    requires { ⌜ length (now b) ≤ mostColumns ⌝ }
     ensures { λ r. ⌜ r ≡ fieldValue (now (b .entry)) ⌝ }
 {
+    let columns = b.len();
     let mut n: u64 = 0;
-    for i in 0..Sheet::FIELD_WIDTH {
+    for i in 0..columns {
         n = n * BASE + digit(b[i]);
     }
     n
@@ -56,10 +56,10 @@ fn left_column(n: u64) -> u8
 
 // Are these the columns of n? They are compared from the right, each time with one digit of n less.
 fn is_field(b: &[u8], n: u64) -> bool
-    requires { ⌜ length (now b) ≡ fieldWidth ⌝ }
-    ensures { λ r. ⌜ r ≡ same (now (b .entry)) (writeField fieldWidth n) ⌝ }
+    requires { ⌜ 1 ≤ length (now b) ⌝ }
+    ensures { λ r. ⌜ r ≡ same (now (b .entry)) (writeField (length (now (b .entry))) n) ⌝ }
 {
-    let mut i = Sheet::FIELD_WIDTH - 1;
+    let mut i = b.len() - 1;
     if b[i] != last_column(n) {
         return false;
     }
@@ -75,27 +75,34 @@ fn is_field(b: &[u8], n: u64) -> bool
 }
 
 // A field is a number's exactly if writing the number in its columns gives the same bytes.
-pub fn read_field(b: &[u8]) -> Field
-    ensures { λ r. ⌜ r ≡ fieldAnswer (readField fieldWidth (now (b .entry))) ⌝ }
+pub fn read_field(b: &[u8], columns: usize) -> Field
+    requires { ⌜ (1 ≤ columns) × (columns ≤ mostColumns) ⌝ }
+    ensures { λ r. ⌜ r ≡ fieldAnswer (readField columns (now (b .entry))) ⌝ }
 {
-    if b.len() != Sheet::FIELD_WIDTH {
+    if b.len() != columns {
         return Field::Refused;
     }
     let n = value(b);
     if is_field(b, n) {
-        return Field::Number(n as u16);
+        return Field::Number(n as u32);
     }
     Field::Refused
 }
 
-// The four columns of n; of a number of more digits the last four.
-pub fn columns(n: u64) -> [u8; Sheet::FIELD_WIDTH]
-    ensures { λ r. ⌜ r ≡ writeNumber n ⌝ }
+// Writes n in as many columns as are lent; of a number of more digits the last ones.
+pub fn write_field(out: &mut [u8], n: u64)
+    ensures { λ _. ⌜ now (out .exit) ≡ writeField (length (now (out .entry))) n ⌝ }
 {
-    [
-        left_column(n / 1000),
-        left_column(n / 100),
-        left_column(n / BASE),
-        last_column(n),
-    ]
+    let columns = out.len();
+    if columns == 0 {
+        return;
+    }
+    let mut i = columns - 1;
+    out[i] = last_column(n);
+    let mut rest = n;
+    while 0 < i {
+        i = i - 1;
+        rest = rest / BASE;
+        out[i] = left_column(rest);
+    }
 }

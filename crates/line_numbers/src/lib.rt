@@ -1,5 +1,5 @@
-//! Numbers in fields: one, the four that each line of the program's output opens with, and the first line, which has no more. Each is written to a
-//! lent part of just its size. Definitions and limits are those of the crate `output`.
+//! Numbers in fields: the four that each line of the program's output opens with, and the first line, which has no more. Each is written to a lent part
+//! of just its size. Definitions and limits are those of the crate `output`.
 
 ghost use mathlib.Core.Path.{_≡_};
 ghost use mathlib.Core.List.{_++_};
@@ -13,18 +13,6 @@ ghost use Rattle.output.specs.Output.{firstLine};
 use output::Report;
 use sheet::Sheet;
 
-// A number in the four columns of a field.
-fn write_number(out: &mut [u8], n: u64)
-    requires { ⌜ length (now out) ≡ fieldWidth ⌝ }
-    ensures { λ _. ⌜ now (out .exit) ≡ writeNumber n ⌝ }
-{
-    let text = fields::columns(n);
-    out[0] = text[0];
-    out[1] = text[1];
-    out[2] = text[2];
-    out[3] = text[3];
-}
-
 // Four numbers, a field each.
 pub fn write_four(out: &mut [u8], first: u64, second: u64, third: u64, fourth: u64)
     requires { ⌜ length (now out) ≡ 4 * fieldWidth ⌝ }
@@ -33,10 +21,10 @@ pub fn write_four(out: &mut [u8], first: u64, second: u64, third: u64, fourth: u
     let one = Sheet::FIELD_WIDTH;
     let two = 2 * Sheet::FIELD_WIDTH;
     let three = 3 * Sheet::FIELD_WIDTH;
-    write_number(&mut out[..one], first);
-    write_number(&mut out[one..two], second);
-    write_number(&mut out[two..three], third);
-    write_number(&mut out[three..], fourth);
+    fields::write_field(&mut out[..one], first);
+    fields::write_field(&mut out[one..two], second);
+    fields::write_field(&mut out[two..three], third);
+    fields::write_field(&mut out[three..], fourth);
 }
 
 // The first line: 0, a number, its place, and h.

@@ -1,12 +1,12 @@
 //! The numbers of a line: the five of any line, and the three that a job line asks for. Types, definitions and laws are those of the crate `sheet`.
 
 ghost use mathlib.Core.Path.{_≡_};
-ghost use Prim.Native.Nat.{_<_};
+ghost use Prim.Native.Nat.{_≤_, _<_};
 ghost use lib.ListN.{length};
-ghost use Rattle.sheet.specs.Limits.{lineWidth, fieldCount};
+ghost use Rattle.sheet.specs.Limits.{fieldCount, mostColumns, lineBytes};
 ghost use Rattle.sheet.specs.Field.{fieldAnswer};
 ghost use Rattle.sheet.specs.Line.{fieldAt, readLine, lineAnswer};
-ghost use Rattle.sheet.specs.Job.{jobOf};
+ghost use Rattle.sheet.specs.Job.{jobIn, jobOf};
 use sheet::Field;
 use sheet::JobLine;
 use sheet::Line;
@@ -14,38 +14,40 @@ use sheet::LineRead;
 use sheet::Sheet;
 
 // Field i of a line, counted from 0.
-fn field_of(part: &[u8], i: usize) -> Field
-    requires { ⌜ (length (now part) ≡ lineWidth) × (i < fieldCount) ⌝ }
-    ensures { λ r. ⌜ r ≡ fieldAnswer (fieldAt (now (part .entry)) i) ⌝ }
+fn field_of(part: &[u8], i: usize, columns: usize) -> Field
+    requires { ⌜ (1 ≤ columns) × (columns ≤ mostColumns) × (length (now part) ≡ lineBytes columns) × (i < fieldCount) ⌝ }
+    ensures { λ r. ⌜ r ≡ fieldAnswer (fieldAt columns (now (part .entry)) i) ⌝ }
 {
-    let a = Sheet::FIELD_WIDTH * i;
-    let e = a + Sheet::FIELD_WIDTH;
-    fields::read_field(&part[a..e])
+    let a = columns * i;
+    let e = a + columns;
+    fields::read_field(&part[a..e], columns)
 }
 
-// The numbers of a line, which is five fields and the byte that ends it.
-pub fn read_line(part: &[u8]) -> LineRead
-    ensures { λ r. ⌜ r ≡ lineAnswer (readLine (now (part .entry))) ⌝ }
+// The numbers of a line, which is five fields of so many columns and the byte that ends it.
+pub fn read_line(part: &[u8], columns: usize) -> LineRead
+    requires { ⌜ (1 ≤ columns) × (columns ≤ mostColumns) ⌝ }
+    ensures { λ r. ⌜ r ≡ lineAnswer (readLine columns (now (part .entry))) ⌝ }
 {
-    if part.len() != Sheet::LINE_WIDTH {
+    let width = sheet::line_bytes(columns);
+    if part.len() != width {
         return LineRead::Refused;
     }
-    if part[Sheet::LINE_WIDTH - 1] != Sheet::LINE_END {
+    if part[width - 1] != Sheet::LINE_END {
         return LineRead::Refused;
     }
-    let Field::Number(kind) = field_of(part, 0) else {
+    let Field::Number(kind) = field_of(part, 0, columns) else {
         return LineRead::Refused;
     };
-    let Field::Number(second) = field_of(part, 1) else {
+    let Field::Number(second) = field_of(part, 1, columns) else {
         return LineRead::Refused;
     };
-    let Field::Number(third) = field_of(part, 2) else {
+    let Field::Number(third) = field_of(part, 2, columns) else {
         return LineRead::Refused;
     };
-    let Field::Number(fourth) = field_of(part, 3) else {
+    let Field::Number(fourth) = field_of(part, 3, columns) else {
         return LineRead::Refused;
     };
-    let Field::Number(fifth) = field_of(part, 4) else {
+    let Field::Number(fifth) = field_of(part, 4, columns) else {
         return LineRead::Refused;
     };
     LineRead::Five(Line {
@@ -57,11 +59,12 @@ pub fn read_line(part: &[u8]) -> LineRead
     })
 }
 
-// A job line is 4, the old input state, the new one, the start and 0.
-pub fn job(bytes: &[u8]) -> JobLine
-    ensures { λ r. ⌜ r ≡ jobOf (now (bytes .entry)) ⌝ }
+// A job line with so many columns a field is 4, the old input state, the new one, the start and 0.
+pub fn job_in(bytes: &[u8], columns: usize) -> JobLine
+    requires { ⌜ (1 ≤ columns) × (columns ≤ mostColumns) ⌝ }
+    ensures { λ r. ⌜ r ≡ jobIn columns (now (bytes .entry)) ⌝ }
 {
-    let LineRead::Five(v) = read_line(bytes) else {
+    let LineRead::Five(v) = read_line(bytes, columns) else {
         return JobLine::Refused;
     };
     if v.kind != Line::JOB {
@@ -70,5 +73,12 @@ pub fn job(bytes: &[u8]) -> JobLine
     if v.fifth != 0 {
         return JobLine::Refused;
     }
-    JobLine::Asked(v.second as u32, v.third as u32, v.fourth as u32)
+    JobLine::Asked(v.second, v.third, v.fourth)
+}
+
+// A job line of the width in force.
+pub fn job(bytes: &[u8]) -> JobLine
+    ensures { λ r. ⌜ r ≡ jobOf (now (bytes .entry)) ⌝ }
+{
+    job_in(bytes, Sheet::FIELD_WIDTH)
 }

@@ -11,6 +11,7 @@ use borrow.Author.Tests.{not-false}
 use Rattle.net.specs.declared.Net.{Net}
 use Rattle.net.specs.WellFormed.{placeC1, testC2, placeC3}
 use Rattle.net.proofs.WellFormed.{place-c1-none}
+use Rattle.sheet.specs.Limits.{fieldWidth}
 use Rattle.sheet.specs.Rows.{row, when, answer, answered, firstRow, NoRow}
 use Rattle.sheet.specs.Rows.NoRow.{next}
 use Rattle.sheet.specs.Record.{accepted}
@@ -65,7 +66,7 @@ module _ (N : Net) (lines : List ℕ) where
 
 module _ (sheet : List ℕ) (N : Net) (reads : readSheet sheet ≡ accepted N) where
   by-c1 : Runs N ↔ (placeC1 N ≡ none)
-  by-c1 = (λ h. h .1, λ c. (read-valid sheet N reads, c))
+  by-c1 = (λ h. h .1, λ c. (read-valid fieldWidth sheet N reads, c))
 
   pub goes-on : (goesOn (verdictOf N .number) ≡ true) ↔ (placeC1 N ≡ none)
   goes-on = Iff·trans (runs-iff N) by-c1

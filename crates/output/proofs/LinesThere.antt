@@ -64,7 +64,7 @@ module _ (sheet jobs : List ℕ) (n : ℕ) where
   pub line-there : (m : ℕ) → printedAnswer (printedLine h n (outputOf sheet jobs)) ≡ writeNumber m → LineThere sheet jobs n
   line-there m e = by-prints sheet
       (λ p. record {
-        reads = accepted-at-zero sheet (p .0);
+        reads = accepted-at-zero fieldWidth sheet (p .0);
         c1 = place-c1-none (readSheet sheet .net) .0 (p .1 .1);
         read = fewer (jobBytes h) n (jobCount (linesRead jobs)) (omega (arith, begins, length-printed sheet p 1 (linesRead jobs)));
       })
@@ -97,7 +97,7 @@ unfolding judgedOf
 goes-prints sheet =
     cond-by (λ (j : Judged). goesOn (j .answer .number) ≡ true → Prints sheet × (j .keys ≡ keyCount (readSheet sheet .net))) (eqb (readSheet sheet .answer .number) 0)
     (λ e g. ((eqb-true (readSheet sheet .answer .number) 0 e, runs-iff (readSheet sheet .net) .0 g), refl))
-    (λ e g. absurd (not-both _ g (reader-ends (outcome sheet) e)))
+    (λ e g. absurd (not-both _ g (reader-ends (outcome fieldWidth sheet) e)))
 
 module _ (sheet jobs : List ℕ) where
   pub output-first : take openingBytes (outputOf sheet jobs) ≡ openingText sheet

@@ -12,7 +12,7 @@ use Rattle.ternary.specs.Signal.{at}
 use Rattle.net.specs.declared.Net.{Net}
 use Rattle.net.specs.Graph.{keyCount}
 use Rattle.net.specs.WellFormed.{placeC1}
-use Rattle.sheet.specs.Limits.{lineWidth, blank, lineEnd}
+use Rattle.sheet.specs.Limits.{fieldWidth, lineWidth, blank, lineEnd}
 use Rattle.sheet.specs.Line.{writeNumber}
 use Rattle.sheet.specs.Record.{accepted}
 use Rattle.sheet.specs.Reading.{readSheet}
@@ -72,7 +72,7 @@ module _ (sheet : List ℕ) (N : Net) (reads : readSheet sheet ≡ accepted N) (
   jobs-printed n lines = rw (reads, goes-on sheet N reads .1 c1)
 
   results-fit : (lines : List ℕ) → length (batchFor N lines .buffers .results) ≡ jobCount lines * jobWidth N
-  results-fit lines = ap (λ (b : Batch). length (b .buffers .results)) (batch-runs N lines (read-valid sheet N reads, c1)) ∙ run-results N lines
+  results-fit lines = ap (λ (b : Batch). length (b .buffers .results)) (batch-runs N lines (read-valid fieldWidth sheet N reads, c1)) ∙ run-results N lines
 
   module _ (jobs : List ℕ) (k : ℕ) (h : k < jobCount (linesRead jobs)) where
     -- what a batch of the lines read leaves to job k, from 0

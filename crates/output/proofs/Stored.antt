@@ -1,4 +1,4 @@
--- What is stored, store by store: a number's four bytes, a vector's characters, and a job's two vectors, each after a blank, with the end of its line.
+-- What is stored, store by store: a vector's characters, and a job's two vectors, each after a blank, with the end of its line.
 use Prim.Native.Nat.{ℕ, _+_, _-_, _*_, _≤_}
 use native.Mathlib.Omega.{arith}
 use mathlib.Core.Path.{_≡_, ap, _∙_}
@@ -12,11 +12,6 @@ use Rattle.sheet.specs.Line.{writeNumber}
 use Rattle.settlements.proofs.FrontLaws.{Front, nothing, next-byte, next-part, lent-length, all-written}
 use Rattle.output.specs.Text.{vectorText}
 use Rattle.output.proofs.Lengths.{length-number, length-vector}
-
-pub number-stored : (out text : List ℕ) (n : ℕ) → length out ≡ fieldWidth → text ≡ writeNumber n
-    → set (set (set (set out 0 (getD text 0 0)) 1 (getD text 1 0)) 2 (getD text 2 0)) 3 (getD text 3 0) ≡ writeNumber n
-unfolding writeField
-number-stored out text n size e = rw e (sets-eq (writeNumber n) out 0 (omega (arith, length-number n)) ∙ rw (drop-of-length-le out {i = fieldWidth} (omega arith)))
 
 -- all characters of a vector
 pub vector-stored : (h number : ℕ) (vector : List ℕ) → h ≤ length vector → (out : List ℕ) → length out ≡ h

@@ -13,27 +13,29 @@ use sheet::Entry;
 use sheet::Line;
 
 // A record's roles, forms and ends are bytes; a larger number of a line is none of them.
-const LARGEST: u16 = 255;
+const LARGEST: u32 = 255;
+// Its labels and symbols are of two bytes.
+const LARGEST_SYMBOL: u32 = 65535;
 
 fn vertex_of(v: Line) -> Vertex
-    requires { do ⌜ v .third ≤ (← ⟦LARGEST⟧) ⌝ }
+    requires { do ⌜ (v .third ≤ (← ⟦LARGEST⟧)) × (v .fourth ≤ (← ⟦LARGEST_SYMBOL⟧)) ⌝ }
     ensures { λ r. ⌜ r ≡ vertexOf v ⌝ }
 {
     Vertex {
         role: v.third as u8,
-        label: v.fourth,
+        label: v.fourth as u16,
     }
 }
 
 fn edge_of(v: Line) -> Edge
-    requires { do ⌜ (v .second ≤ (← ⟦LARGEST⟧)) × (v .third ≤ (← ⟦LARGEST⟧)) × (v .fourth ≤ (← ⟦LARGEST⟧)) ⌝ }
+    requires { do ⌜ (v .second ≤ (← ⟦LARGEST⟧)) × (v .third ≤ (← ⟦LARGEST⟧)) × (v .fourth ≤ (← ⟦LARGEST⟧)) × (v .fifth ≤ (← ⟦LARGEST_SYMBOL⟧)) ⌝ }
     ensures { λ r. ⌜ r ≡ edgeOf v ⌝ }
 {
     Edge {
         end1: v.second as u8,
         end2: v.third as u8,
         form: v.fourth as u8,
-        symbol: v.fifth,
+        symbol: v.fifth as u16,
     }
 }
 
@@ -57,6 +59,9 @@ fn vertex_line_ok(net: Net, j: usize, v: Line) -> bool
     if LARGEST < v.third {
         return false;
     }
+    if LARGEST_SYMBOL < v.fourth {
+        return false;
+    }
     rules::vertex_ok(net, vertex_of(v))
 }
 
@@ -74,6 +79,9 @@ fn edge_line_ok(net: Net, v: Line) -> bool
         return false;
     }
     if LARGEST < v.fourth {
+        return false;
+    }
+    if LARGEST_SYMBOL < v.fifth {
         return false;
     }
     rules::edge_ok(net, edge_of(v))

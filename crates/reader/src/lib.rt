@@ -6,11 +6,11 @@ pub mod body;
 ghost use mathlib.Core.Path.{_≡_};
 ghost use Prim.Native.Nat.{_+_, _*_, _≤_};
 ghost use lib.ListN.{length, drop};
-ghost use Rattle.sheet.specs.Limits.{lineWidth};
+ghost use Rattle.sheet.specs.Limits.{mostColumns, lineBytes};
 ghost use Rattle.sheet.specs.Rows.{answer, firstRow};
 ghost use Rattle.sheet.specs.Graph.{graphRows};
 ghost use Rattle.sheet.specs.Checked.{Checked, SoFar};
-ghost use Rattle.sheet.specs.Reading.{conclude, readLines, sizeOk, readSheet};
+ghost use Rattle.sheet.specs.Reading.{conclude, readLines, sizeOk, readIn, readSheet};
 ghost use Rattle.sheet.specs.Record.{startNet, refused};
 ghost use Rattle.sheet.specs.Rules.{headerOk};
 use net::Edge;
@@ -24,7 +24,7 @@ use sheet::Reading;
 use sheet::Sheet;
 
 // The edition that this reader knows.
-const EDITION: u16 = 1;
+const EDITION: u32 = 1;
 
 // The record of a header before any vertex or edge is read: all places zero.
 fn start_net(vertices: u8, edges: u16, letters: u8) -> Net
@@ -47,16 +47,18 @@ fn start_net(vertices: u8, edges: u16, letters: u8) -> Net
 }
 
 // Is the length of a sheet allowed?
-fn size_ok(size: usize) -> bool
-    ensures { λ r. ⌜ r ≡ sizeOk size ⌝ }
+fn size_ok(size: usize, columns: usize) -> bool
+    requires { ⌜ columns ≤ mostColumns ⌝ }
+    ensures { λ r. ⌜ r ≡ sizeOk columns size ⌝ }
 {
+    let width = sheet::line_bytes(columns);
     if size == 0 {
         return false;
     }
-    if size % Sheet::LINE_WIDTH != 0 {
+    if size % width != 0 {
         return false;
     }
-    size <= Sheet::MOST_BYTES
+    size <= width * Sheet::MOST_LINES
 }
 
 // A header is 1, vertices, edges, letters and the edition.
@@ -96,16 +98,17 @@ fn concluded(net: Net) -> Reading
 }
 
 // The lines below the header; reading stops at the first that is refused.
-fn read_lines(sheet: &[u8], start: Net, count: usize) -> Reading
-    requires { ⌜ SoFar start 0 × (count ≡ start .«vertex_count» + start .«edge_count») × (lineWidth * (1 + count) ≤ length (now sheet)) ⌝ }
-    ensures { λ r. ⌜ r ≡ readLines count (drop lineWidth (now (sheet .entry))) 0 start ⌝ }
+fn read_lines(sheet: &[u8], columns: usize, start: Net, count: usize) -> Reading
+    requires { ⌜ SoFar start 0 × (count ≡ start .«vertex_count» + start .«edge_count») × (lineBytes columns * (1 + count) ≤ length (now sheet)) × (1 ≤ columns) × (columns ≤ mostColumns) ⌝ }
+    ensures { λ r. ⌜ r ≡ readLines columns count (drop (lineBytes columns) (now (sheet .entry))) 0 start ⌝ }
 {
+    let width = sheet::line_bytes(columns);
     let mut net = start;
-    let mut at = Sheet::LINE_WIDTH;
+    let mut at = width;
     let mut j: usize = 0;
     while j < count {
-        let end = at + Sheet::LINE_WIDTH;
-        let LineRead::Five(line) = line_values::read_line(&sheet[at..end]) else {
+        let end = at + width;
+        let LineRead::Five(line) = line_values::read_line(&sheet[at..end], columns) else {
             return refusal(Answer::BAD_LINE, (j + 2) as u16);
         };
         let decoded = body::decode_line(net, j, line);
@@ -119,24 +122,37 @@ fn read_lines(sheet: &[u8], start: Net, count: usize) -> Reading
     concluded(net)
 }
 
-// A sheet's record, or the number and place of its first fault.
-pub fn read(sheet: &[u8]) -> Reading
-    ensures { λ r. ⌜ r ≡ readSheet (now (sheet .entry)) ⌝ }
+// The record of a sheet with so many columns a field, or the number and place of its first fault.
+pub fn read_in(sheet: &[u8], columns: usize) -> Reading
+    requires { ⌜ (1 ≤ columns) × (columns ≤ mostColumns) ⌝ }
+    ensures { λ r. ⌜ r ≡ readIn columns (now (sheet .entry)) ⌝ }
 {
+    let width = sheet::line_bytes(columns);
     let size = sheet.len();
-    if !size_ok(size) {
+    if !size_ok(size, columns) {
         return refusal(Answer::BAD_LENGTH, 0);
     }
-    let LineRead::Five(header) = line_values::read_line(&sheet[0..Sheet::LINE_WIDTH]) else {
+    let LineRead::Five(header) = line_values::read_line(&sheet[0..width], columns) else {
         return refusal(Answer::BAD_LINE, 1);
     };
     if !header_ok(header) {
         return refusal(Answer::BAD_HEADER, 1);
     }
     let count = header.second as usize + header.third as usize;
-    if size / Sheet::LINE_WIDTH != 1 + count {
+    if size / width != 1 + count {
         return refusal(Answer::BAD_LINE_COUNT, 0);
     }
-    let start = start_net(header.second as u8, header.third, header.fourth as u8);
-    read_lines(sheet, start, count)
+    let start = start_net(
+        header.second as u8,
+        header.third as u16,
+        header.fourth as u8,
+    );
+    read_lines(sheet, columns, start, count)
+}
+
+// A sheet of the width in force.
+pub fn read(sheet: &[u8]) -> Reading
+    ensures { λ r. ⌜ r ≡ readSheet (now (sheet .entry)) ⌝ }
+{
+    read_in(sheet, Sheet::FIELD_WIDTH)
 }

@@ -10,6 +10,7 @@ use cases::Input;
 use cases::data_of;
 use cases::large_at;
 use cases::next_case;
+use cases::number_text;
 use libc::STDIN_FILENO;
 use libc::STDOUT_FILENO;
 use net::Net;
@@ -59,9 +60,9 @@ fn answer_buffer() -> [u8; Lent::MOST_ANSWERS]
     [Lent::UNTOUCHED; Lent::MOST_ANSWERS]
 }
 
-// A number in four columns.
+// A number in the columns of a field.
 fn print_column(n: u64) {
-    let text = fields::columns(n);
+    let text = number_text(n);
     io::write_all(STDOUT_FILENO, &text);
 }
 

@@ -7,6 +7,8 @@ use mathlib.Core.List.{List, [], _∷_, _++_}
 use lib.ListN.{length, take, drop, set, length-append, length-drop, length-set}
 use lib.Seq.{length-take-le, take-all, take-at, take-suc-set}
 use borrow.Rule.Slice.PartMut.{putMid}
+use Rattle.sheet.specs.Field.{writeField}
+use Rattle.sheet.proofs.FieldLaws.{length-field}
 use Rattle.settlements.proofs.Parts.{part-taken, part-length}
 
 -- the first `at` of so many bytes are a text
@@ -55,3 +57,22 @@ module _ {size at : ℕ} {text out : List ℕ} (f : Front size at text out) wher
 
   pub all-written : at ≡ size → out ≡ text
   all-written e = sym (take-all at out (omega (arith, f .kept))) ∙ f .written
+
+-- ---- fields: a part that a call filled with a number, in as many columns as the part has bytes
+
+pub first-field : {size : ℕ} (w n : ℕ) (out : List ℕ) {part : List ℕ} → part ≡ writeField (length (take w out)) n → length out ≡ size → w ≤ size
+    → Front size w (writeField w n) (part ++ drop w out)
+first-field w n out q e room =
+    first-part out (q ∙ ap (λ (k : ℕ). writeField k n) (length-take-le w out (omega arith))) e room (length-field w n)
+
+module _ {size at : ℕ} {text out : List ℕ} (f : Front size at text out) (w n : ℕ) where
+  pub next-field : (end : ℕ) {part : List ℕ} → part ≡ writeField (length (take (end - at) (drop at out))) n → end ≡ at + w → end ≤ size
+      → Front size end (text ++ writeField w n) (putMid at (end - at) out part)
+  next-field end q e room =
+      let columns : length (take (end - at) (drop at out)) ≡ w = lent-length at end out (omega arith) (omega (arith, f .kept)) ∙ omega arith in
+      next-part f end (q ∙ ap (λ (k : ℕ). writeField k n) columns) (omega arith) room (length-field w n ∙ omega arith)
+
+  -- the field up to the buffer's end
+  pub last-field : {part : List ℕ} → part ≡ writeField (length (take (length out - at) (drop at out))) n → size ≡ at + w
+      → Front size size (text ++ writeField w n) (putMid at (length out - at) out part)
+  last-field q e = rw (f .kept) (next-field size (rw (f .kept) at q) e (omega arith))

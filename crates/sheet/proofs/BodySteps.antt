@@ -7,6 +7,7 @@ use lib.Dec.{ltb}
 use borrow.Author.Tests.{eq-eqb, ne-eqb, lt-ltb, le-ltb, ltb-true, ltb-false}
 use Rattle.net.specs.declared.Net.{Net}
 use Rattle.net.specs.Limits.{mostVertices, mostEdges}
+use Rattle.net.specs.Symbols.{symbolBound}
 use Rattle.ternary.proofs.Tests.{ands, fails, cond-by}
 use Rattle.sheet.specs.declared.Line.{Line}
 use Rattle.sheet.specs.declared.Entry.{Entry}
@@ -28,6 +29,9 @@ module _ (N : Net) (j : ℕ) (v : Line) where
 
   pub no-role : 2 < v .third → false ≡ vertexLineOk N j v
   no-role h = sym (fails (vertexLineOk N j v) (λ t. let r = vertex-line-range t in omega arith))
+
+  pub no-label : symbolBound ≤ v .fourth → false ≡ vertexLineOk N j v
+  no-label h = sym (fails (vertexLineOk N j v) (λ t. let r = vertex-line-range t in omega arith))
 
   pub no-vertex-line : (v .kind ≡ 2 → ⊥) → false ≡ vertexLineOk N j v
   unfolding vertexLineOk

@@ -49,11 +49,11 @@ no-line-end : readSheet (bytes "   1   4   4   1   1") ≡ refused (answer 11 0)
 unfolding open-all
 no-line-end = refl
 
-full-size : sizeOk mostBytes ≡ true
+full-size : sizeOk fieldWidth mostBytes ≡ true
 unfolding open-all
 full-size = refl
 
-over-size : sizeOk (mostBytes + lineWidth) ≡ false
+over-size : sizeOk fieldWidth (mostBytes + lineWidth) ≡ false
 unfolding open-all
 over-size = refl
 

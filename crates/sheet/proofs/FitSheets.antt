@@ -7,51 +7,51 @@ use mathlib.Core.Option.{none}
 use lib.ListN.{length}
 use borrow.Author.Tests.{eqb-true, not-false}
 use Rattle.sheet.specs.declared.Line.{Line}
-use Rattle.sheet.specs.Limits.{lineWidth}
+use Rattle.sheet.specs.Limits.{lineBytes}
 use Rattle.sheet.specs.Rows.{firstRow, NoRow}
 use Rattle.sheet.specs.Rows.NoRow.{end, next}
 use Rattle.sheet.specs.Rules.{headerOk}
 use Rattle.sheet.specs.Graph.{graphRows}
 use Rattle.sheet.specs.Reading.{vertexLineOk, edgeLineOk, sizeOk}
-use Rattle.sheet.specs.SheetRows.{lineAt, isMissing, numbersOf, inTurn, vertexCount, edgeCount, netOf, vertexRows, edgeRows, sheetRows}
+use Rattle.sheet.specs.SheetRows.{lineAt, isMissing, numbersOf, inTurn, vertexCount, edgeCount, netIn, vertexRows, edgeRows, rowsIn}
 use Rattle.sheet.proofs.RowLaws.{first-none, none-append, not-held}
 use Rattle.sheet.proofs.TurnLaws.{each-turn}
 
-module _ (b : List ℕ) where
+module _ (w : ℕ) (b : List ℕ) where
   -- line n is five fields, and its values pass the test
   pub record Passing (n : ℕ) (test : Line → Bool) : Type 0 where
-    pub there : isMissing (lineAt b n) ≡ false
-    pub allowed : test (numbersOf (lineAt b n)) ≡ true
+    pub there : isMissing (lineAt w b n) ≡ false
+    pub allowed : test (numbersOf (lineAt w b n)) ≡ true
 
   -- none of the rows holds
   pub record Fit : Type 0 where
-    pub size : sizeOk (length b) ≡ true
+    pub size : sizeOk w (length b) ≡ true
     pub first : Passing 0 headerOk
-    pub lines : length b / lineWidth ≡ 1 + vertexCount b + edgeCount b
-    pub vertices : (j : ℕ) → j < vertexCount b → Passing (1 + j) (vertexLineOk (netOf b) j)
-    pub edges : (i : ℕ) → i < edgeCount b → Passing (1 + vertexCount b + i) (edgeLineOk (netOf b))
-    pub graph : firstRow (graphRows (netOf b)) ≡ none
+    pub lines : length b / lineBytes w ≡ 1 + vertexCount w b + edgeCount w b
+    pub vertices : (j : ℕ) → j < vertexCount w b → Passing (1 + j) (vertexLineOk (netIn w b) j)
+    pub edges : (i : ℕ) → i < edgeCount w b → Passing (1 + vertexCount w b + i) (edgeLineOk (netIn w b))
+    pub graph : firstRow (graphRows (netIn w b)) ≡ none
 
-  vertex-passing : (j : ℕ) → NoRow (vertexRows b j) → Passing (1 + j) (vertexLineOk (netOf b) j)
+  vertex-passing : (j : ℕ) → NoRow (vertexRows w b j) → Passing (1 + j) (vertexLineOk (netIn w b) j)
   unfolding vertexRows
   vertex-passing j (next h (next k end)) = record { there = not-held (suc (1 + j)) _ h; allowed = not-false _ (not-held (suc (1 + j)) _ k) }
 
-  edge-passing : (i : ℕ) → NoRow (edgeRows b i) → Passing (1 + vertexCount b + i) (edgeLineOk (netOf b))
+  edge-passing : (i : ℕ) → NoRow (edgeRows w b i) → Passing (1 + vertexCount w b + i) (edgeLineOk (netIn w b))
   unfolding edgeRows
   edge-passing i (next h (next k end)) =
-      let p = suc (1 + vertexCount b + i) in
+      let p = suc (1 + vertexCount w b + i) in
       record { there = not-held p _ h; allowed = not-false _ (not-held p _ k) }
 
-  pub fit : NoRow (sheetRows b) → Fit
-  unfolding sheetRows
+  pub fit : NoRow (rowsIn w b) → Fit
+  unfolding rowsIn
   fit (next size (next there (next allowed (next lines rest)))) =
-      let parts = none-append (inTurn (vertexCount b) 0 (vertexRows b)) _ rest in
-      let later = none-append (inTurn (edgeCount b) 0 (edgeRows b)) _ (parts .1) in
+      let parts = none-append (inTurn (vertexCount w b) 0 (vertexRows w b)) _ rest in
+      let later = none-append (inTurn (edgeCount w b) 0 (edgeRows w b)) _ (parts .1) in
       record {
         size = not-false _ (not-held 0 _ size);
         first = record { there = not-held 1 _ there; allowed = not-false _ (not-held 1 _ allowed) };
         lines = eqb-true _ _ (not-false _ (not-held 0 _ lines));
-        vertices = λ j h. vertex-passing j (each-turn (vertexCount b) (vertexRows b) (parts .0) j h);
-        edges = λ i h. edge-passing i (each-turn (edgeCount b) (edgeRows b) (later .0) i h);
-        graph = first-none (graphRows (netOf b)) .1 (later .1);
+        vertices = λ j h. vertex-passing j (each-turn (vertexCount w b) (vertexRows w b) (parts .0) j h);
+        edges = λ i h. edge-passing i (each-turn (edgeCount w b) (edgeRows w b) (later .0) i h);
+        graph = first-none (graphRows (netIn w b)) .1 (later .1);
       }

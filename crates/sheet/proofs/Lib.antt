@@ -1,6 +1,7 @@
 -- Laws of the sheet format.
 pub mod FieldLaws
 pub mod FieldSteps
+pub mod WholeLines
 pub mod LineLaws
 pub mod LineSteps
 pub mod RowLaws

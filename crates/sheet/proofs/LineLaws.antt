@@ -1,58 +1,99 @@
 -- Lines: reading one and writing one undo each other; and where one line of a sheet stands.
-use Prim.Native.Nat.{ℕ, suc, _-_, _*_, _^_, _<_}
+use Prim.Native.Nat.{ℕ, suc, _+_, _-_, _*_, _^_, _≤_, _<_}
 use native.Mathlib.Nat.{mul-zero, mul-suc}
 use native.Mathlib.Omega.{arith}
-use mathlib.Core.Path.{_≡_, refl, ap}
+use mathlib.Core.Path.{_≡_, ap, _∙_}
 use mathlib.Core.Logic.{_↔_}
 use mathlib.Core.Bool.{true, false, true≢false}
 use mathlib.Core.List.{List, [], _∷_, _++_, append-assoc}
 use mathlib.Core.Option.{Option, none, some}
-use lib.ListN.{length, take, drop, length-take, length-drop, take-append-drop}
-use lib.Seq.{drop-drop}
+use lib.ListN.{length, take, drop, length-take, length-drop, length-append, take-append-drop}
+use lib.Seq.{drop-drop, take-at, drop-at, length-take-le}
 use borrow.Author.Tests.{le-leb, leb-true}
 use Rattle.ternary.specs.Lists.{same}
 use Rattle.ternary.proofs.Tests.{ands, both, cond-by, fails}
 use Rattle.ternary.proofs.ListLaws.{same-true}
-use Rattle.sheet.specs.Limits.{fieldWidth, fieldCount, lineWidth, lineEnd}
+use Rattle.sheet.specs.Limits.{fieldCount, lineBytes, lineEnd}
 use Rattle.sheet.specs.Field.{writeField}
 use Rattle.sheet.specs.declared.Line.{Line}
-use Rattle.sheet.specs.Line.{line, writeLine, fieldAt, fiveFields, readLine, FullLine, hasLine, sheetLine, lineNumber}
-use Rattle.sheet.proofs.FieldLaws.{read-write-field, write-read-field}
+use Rattle.sheet.specs.Line.{line, writeLine, fieldAt, fiveFields, readLine, FullLineIn, hasLine, lineIn, lineNumberIn}
+use Rattle.sheet.proofs.FieldLaws.{length-field, read-write-field, write-read-field}
 
 -- every number fits its field
-pub record SmallLine (v : Line) : Type 0 where
-  pub kind : v .kind < 10 ^ fieldWidth
-  pub second : v .second < 10 ^ fieldWidth
-  pub third : v .third < 10 ^ fieldWidth
-  pub fourth : v .fourth < 10 ^ fieldWidth
-  pub fifth : v .fifth < 10 ^ fieldWidth
+pub record SmallLine (w : ℕ) (v : Line) : Type 0 where
+  pub kind : v .kind < 10 ^ w
+  pub second : v .second < 10 ^ w
+  pub third : v .third < 10 ^ w
+  pub fourth : v .fourth < 10 ^ w
+  pub fifth : v .fifth < 10 ^ w
 
-pub read-write-line : (v : Line) → SmallLine v → readLine (writeLine v) ≡ some v
-unfolding readLine writeLine fieldAt writeField same fiveFields
-read-write-line v s =
-    rw (
-      read-write-field fieldWidth (v .kind) (s .kind),
-      read-write-field fieldWidth (v .second) (s .second),
-      read-write-field fieldWidth (v .third) (s .third),
-      read-write-field fieldWidth (v .fourth) (s .fourth),
-      read-write-field fieldWidth (v .fifth) (s .fifth),
-    )
+-- a piece of w bytes at the front of what is left behind i pieces
+module _ (w : ℕ) (b : List ℕ) where
+  piece-front : (i : ℕ) (p rest : List ℕ) → length p ≡ w → drop (w * i) b ≡ p ++ rest → take w (drop (w * i) b) ≡ p
+  piece-front i p rest size e = rw e (take-at p rest w size)
 
-pub length-line : (v : Line) → length (writeLine v) ≡ lineWidth
-unfolding writeLine writeField
-length-line v = refl
+  piece-behind : (i : ℕ) (p rest : List ℕ) → length p ≡ w → drop (w * i) b ≡ p ++ rest → drop (w * suc i) b ≡ rest
+  piece-behind i p rest size e = rw (mul-suc, ← (drop-drop w (w * i) b), e) (drop-at p rest w size)
 
-pub take-line : (v : Line) (rest : List ℕ) → take lineWidth (writeLine v ++ rest) ≡ writeLine v
-unfolding writeLine writeField
-take-line v rest = refl
+module _ (w : ℕ) (v : Line) where
+  abbrev after-4 : List ℕ
+  after-4 = lineEnd ∷ []
 
-pub drop-line : (v : Line) (rest : List ℕ) → drop lineWidth (writeLine v ++ rest) ≡ rest
-unfolding writeLine writeField
-drop-line v rest = refl
+  abbrev after-3 : List ℕ
+  after-3 = writeField w (v .fifth) ++ after-4
 
-pub record Written (b : List ℕ) (v : Line) : Type 0 where
-  pub written : writeLine v ≡ b
-  pub small : SmallLine v
+  abbrev after-2 : List ℕ
+  after-2 = writeField w (v .fourth) ++ after-3
+
+  abbrev after-1 : List ℕ
+  after-1 = writeField w (v .third) ++ after-2
+
+  abbrev after-0 : List ℕ
+  after-0 = writeField w (v .second) ++ after-1
+
+  -- its pieces, from the left
+  line-pieces : writeLine w v ≡ writeField w (v .kind) ++ after-0
+  unfolding writeLine
+  line-pieces = simp append-assoc
+
+  pub read-write-line : SmallLine w v → readLine w (writeLine w v) ≡ some v
+  unfolding readLine fieldAt same fiveFields
+  read-write-line s =
+      let b : List ℕ = writeField w (v .kind) ++ after-0 in
+      let d0 : drop (w * 0) b ≡ b = rw mul-zero in
+      let d1 = piece-behind w b 0 (writeField w (v .kind)) after-0 (length-field w _) d0 in
+      let d2 = piece-behind w b 1 (writeField w (v .second)) after-1 (length-field w _) d1 in
+      let d3 = piece-behind w b 2 (writeField w (v .third)) after-2 (length-field w _) d2 in
+      let d4 = piece-behind w b 3 (writeField w (v .fourth)) after-3 (length-field w _) d3 in
+      let d5 = piece-behind w b 4 (writeField w (v .fifth)) after-4 (length-field w _) d4 in
+      rw (
+        line-pieces,
+        d5,
+        piece-front w b 0 (writeField w (v .kind)) after-0 (length-field w _) d0,
+        piece-front w b 1 (writeField w (v .second)) after-1 (length-field w _) d1,
+        piece-front w b 2 (writeField w (v .third)) after-2 (length-field w _) d2,
+        piece-front w b 3 (writeField w (v .fourth)) after-3 (length-field w _) d3,
+        piece-front w b 4 (writeField w (v .fifth)) after-4 (length-field w _) d4,
+        read-write-field w (v .kind) (s .kind),
+        read-write-field w (v .second) (s .second),
+        read-write-field w (v .third) (s .third),
+        read-write-field w (v .fourth) (s .fourth),
+        read-write-field w (v .fifth) (s .fifth),
+      )
+
+  pub length-line : length (writeLine w v) ≡ lineBytes w
+  unfolding writeLine
+  length-line = simp (length-append, length-field) (omega arith)
+
+  pub take-line : (rest : List ℕ) → take (lineBytes w) (writeLine w v ++ rest) ≡ writeLine w v
+  take-line rest = take-at (writeLine w v) rest (lineBytes w) length-line
+
+  pub drop-line : (rest : List ℕ) → drop (lineBytes w) (writeLine w v ++ rest) ≡ rest
+  drop-line rest = drop-at (writeLine w v) rest (lineBytes w) length-line
+
+pub record Written (w : ℕ) (b : List ℕ) (v : Line) : Type 0 where
+  pub written : writeLine w v ≡ b
+  pub small : SmallLine w v
 
 -- five pieces of w bytes, and all that follows them: stated for any w, so that nothing is computed
 module _ (w : ℕ) (b : List ℕ) where
@@ -65,14 +106,15 @@ module _ (w : ℕ) (b : List ℕ) where
   pieces : piece 0 ++ piece 1 ++ piece 2 ++ piece 3 ++ piece 4 ++ drop (w * fieldCount) b ≡ b
   pieces = simp append-assoc (rw (piece-rest 4, piece-rest 3, piece-rest 2, piece-rest 1, piece-rest 0, mul-zero))
 
-record Fields (p q r s t : Option ℕ) (v : Line) : Type 0 where
-  kind : p ≡ some (v .kind)
-  second : q ≡ some (v .second)
-  third : r ≡ some (v .third)
-  fourth : s ≡ some (v .fourth)
-  fifth : t ≡ some (v .fifth)
+-- the numbers of a line that was read
+pub record Fields (p q r s t : Option ℕ) (v : Line) : Type 0 where
+  pub kind : p ≡ some (v .kind)
+  pub second : q ≡ some (v .second)
+  pub third : r ≡ some (v .third)
+  pub fourth : s ≡ some (v .fourth)
+  pub fifth : t ≡ some (v .fifth)
 
-five : (v : Line) (p q r s t : Option ℕ) → fiveFields p q r s t ≡ some v → Fields p q r s t v
+pub five : (v : Line) (p q r s t : Option ℕ) → fiveFields p q r s t ≡ some v → Fields p q r s t v
 unfolding fiveFields
 five v (some a) (some b) (some c) (some d) (some e) h =
     let is : line a b c d e ≡ v = cc in
@@ -89,59 +131,63 @@ five v (some a) (some b) none d e h = absurd (true≢false (cc))
 five v (some a) none c d e h = absurd (true≢false (cc))
 five v none b c d e h = absurd (true≢false (cc))
 
-pub write-read-line : (b : List ℕ) (v : Line) → readLine b ≡ some v → Written b v
+pub write-read-line : (w : ℕ) (b : List ℕ) (v : Line) → readLine w b ≡ some v → Written w b v
 unfolding readLine fieldAt writeLine
-write-read-line b v =
-    cond-by (λ o. o ≡ some v → Written b v) (same (drop (fieldWidth * fieldCount) b) (lineEnd ∷ []))
+write-read-line w b v =
+    cond-by (λ o. o ≡ some v → Written w b v) (same (drop (w * fieldCount) b) (lineEnd ∷ []))
     (λ t e.
-    let end : drop (fieldWidth * fieldCount) b ≡ lineEnd ∷ [] = same-true _ _ t in
-    let f = five v (fieldAt b 0) (fieldAt b 1) (fieldAt b 2) (fieldAt b 3) (fieldAt b 4) e in
-    let f0 = write-read-field fieldWidth _ (v .kind) (f .kind) in
-    let f1 = write-read-field fieldWidth _ (v .second) (f .second) in
-    let f2 = write-read-field fieldWidth _ (v .third) (f .third) in
-    let f3 = write-read-field fieldWidth _ (v .fourth) (f .fourth) in
-    let f4 = write-read-field fieldWidth _ (v .fifth) (f .fifth) in
+    let end : drop (w * fieldCount) b ≡ lineEnd ∷ [] = same-true _ _ t in
+    let f = five v (fieldAt w b 0) (fieldAt w b 1) (fieldAt w b 2) (fieldAt w b 3) (fieldAt w b 4) e in
+    let f0 = write-read-field w _ (v .kind) (f .kind) in
+    let f1 = write-read-field w _ (v .second) (f .second) in
+    let f2 = write-read-field w _ (v .third) (f .third) in
+    let f3 = write-read-field w _ (v .fourth) (f .fourth) in
+    let f4 = write-read-field w _ (v .fifth) (f .fifth) in
     record {
       written =
-          rw (f0 .written, f1 .written, f2 .written, f3 .written, f4 .written, ← end) (pieces fieldWidth b);
+          rw (f0 .written, f1 .written, f2 .written, f3 .written, f4 .written, ← end) (pieces w b);
       small = record { kind = f0 .small; second = f1 .small; third = f2 .small; fourth = f3 .small; fifth = f4 .small };
     })
     (λ _ e. absurd (true≢false (cc)))
 
 -- ---- one line of a sheet
 
-module _ (b : List ℕ) (n : ℕ) where
-  pub has-line-iff : (hasLine b n ≡ true) ↔ FullLine b n
+module _ (w : ℕ) (b : List ℕ) (n : ℕ) where
+  pub has-line-iff : (hasLine w b n ≡ true) ↔ FullLineIn w b n
   unfolding hasLine
   has-line-iff = (
-    λ t. record { first = leb-true 1 n (search ands); room = leb-true (lineWidth * n) (length b) (search ands) },
-    λ f. both (le-leb 1 n (f .first)) (le-leb (lineWidth * n) (length b) (f .room)),
+    λ t. record { first = leb-true 1 n (search ands); room = leb-true (lineBytes w * n) (length b) (search ands) },
+    λ f. both (le-leb 1 n (f .first)) (le-leb (lineBytes w * n) (length b) (f .room)),
   )
 
-  no-line : (¬ FullLine b n) → hasLine b n ≡ false
-  no-line f = fails (hasLine b n) (λ t. f (has-line-iff .0 t))
+  no-line : (¬ FullLineIn w b n) → hasLine w b n ≡ false
+  no-line f = fails (hasLine w b n) (λ t. f (has-line-iff .0 t))
 
-  pub line-found : (lineNumber b n ≡ 0) ↔ FullLine b n
-  unfolding lineNumber
+  pub line-found : (lineNumberIn w b n ≡ 0) ↔ FullLineIn w b n
+  unfolding lineNumberIn
   line-found = (
-    cond-by (λ (k : ℕ). k ≡ 0 → FullLine b n) (hasLine b n) (λ t _. has-line-iff .0 t) (λ _ e. absurd (omega arith)),
+    cond-by (λ (k : ℕ). k ≡ 0 → FullLineIn w b n) (hasLine w b n) (λ t _. has-line-iff .0 t) (λ _ e. absurd (omega arith)),
     λ f. rw (has-line-iff .1 f),
   )
 
-  pub line-missing : (lineNumber b n ≡ 47) ↔ (¬ FullLine b n)
-  unfolding lineNumber
+  pub line-missing : (lineNumberIn w b n ≡ 47) ↔ (¬ FullLineIn w b n)
+  unfolding lineNumberIn
   line-missing = (
     λ e f. absurd (omega (arith, e, line-found .1 f)),
     λ f. rw (no-line f),
   )
 
-  pub line-bytes : FullLine b n → sheetLine b n ≡ take lineWidth (drop (lineWidth * (n - 1)) b)
-  unfolding sheetLine
+  pub line-bytes : FullLineIn w b n → lineIn w b n ≡ take (lineBytes w) (drop (lineBytes w * (n - 1)) b)
+  unfolding lineIn
   line-bytes f = rw (has-line-iff .1 f)
 
-  pub line-length : FullLine b n → length (sheetLine b n) ≡ lineWidth
-  line-length f = rw (line-bytes f, length-take, length-drop) (omega arith)
+  pub line-room : FullLineIn w b n → lineBytes w * (n - 1) + lineBytes w ≤ length b
+  line-room f = let here : suc (n - 1) ≡ n = omega (arith, f .first) in rw (← (mul-suc (lineBytes w) (n - 1)), here) (f .room)
 
-  pub line-empty : (¬ FullLine b n) → sheetLine b n ≡ []
-  unfolding sheetLine
+  pub line-length : FullLineIn w b n → length (lineIn w b n) ≡ lineBytes w
+  line-length f =
+      ap length (line-bytes f) ∙ length-take-le (lineBytes w) (drop (lineBytes w * (n - 1)) b) (rw length-drop (omega (arith, line-room f)))
+
+  pub line-empty : (¬ FullLineIn w b n) → lineIn w b n ≡ []
+  unfolding lineIn
   line-empty f = rw (no-line f)

@@ -13,7 +13,7 @@ use Rattle.sheet.specs.declared.Line.{Line}
 use Rattle.sheet.specs.declared.Entry.{Entry}
 use Rattle.sheet.specs.declared.Decoded.the-variants.{Allowed, Refused}
 use Rattle.sheet.specs.declared.LineRead.the-variants.{Five, Refused as NoLine}
-use Rattle.sheet.specs.Limits.{lineWidth}
+use Rattle.sheet.specs.Limits.{lineBytes}
 use Rattle.sheet.specs.Line.{readLine, lineAnswer}
 use Rattle.sheet.specs.Rows.{firstRow, answered}
 use Rattle.sheet.specs.Record.{refused}
@@ -32,33 +32,33 @@ pub line-some : (o : Option Line) (v : Line) → lineAnswer o ≡ Five v → o �
 line-some none v e = absurd (true≢false (cc))
 line-some (some u) v e = ap some (cc)
 
--- the part of the sheet that is lent
-abbrev pub lent : List ℕ → ℕ → List ℕ
-lent b at = take (at + lineWidth - at) (drop at b)
+-- the part of the sheet that is lent, `width` bytes long, which the code works out
+abbrev pub lent : ℕ → List ℕ → ℕ → List ℕ
+lent width b at = take (at + width - at) (drop at b)
 
-module _ (b : List ℕ) (at j : ℕ) (N : Net) where
-  whole-line : lent b at ≡ take lineWidth (drop at b)
-  whole-line = let n : at + lineWidth - at ≡ lineWidth = omega arith in rw n
+module _ (w : ℕ) (b : List ℕ) (at j : ℕ) (N : Net) (width : ℕ) (is : width ≡ lineBytes w) where
+  whole-line : lent width b at ≡ take (lineBytes w) (drop at b)
+  whole-line = let n : at + width - at ≡ lineBytes w = omega (arith, is) in rw n
 
   -- it is not five fields
-  pub not-fields : lineAnswer (readLine (lent b at)) ≡ NoLine → stepLine (readLine (take lineWidth (drop at b))) j N ≡ stop 12
+  pub not-fields : lineAnswer (readLine w (lent width b at)) ≡ NoLine → stepLine (readLine w (take (lineBytes w) (drop at b))) j N ≡ stop 12
   unfolding stepLine
-  not-fields e = rw (line-none (readLine (take lineWidth (drop at b))) (rw whole-line at e))
+  not-fields e = rw (line-none (readLine w (take (lineBytes w) (drop at b))) (rw whole-line at e))
 
-  module _ (v : Line) (five : lineAnswer (readLine (lent b at)) ≡ Five v) where
-    step-is : stepLine (readLine (take lineWidth (drop at b))) j N ≡ addLine N j v
+  module _ (v : Line) (five : lineAnswer (readLine w (lent width b at)) ≡ Five v) where
+    step-is : stepLine (readLine w (take (lineBytes w) (drop at b))) j N ≡ addLine N j v
     unfolding stepLine
-    step-is = rw (line-some (readLine (take lineWidth (drop at b))) v (rw whole-line at five))
+    step-is = rw (line-some (readLine w (take (lineBytes w) (drop at b))) v (rw whole-line at five))
 
     -- its values are refused
-    pub line-stops : (n : ℕ) → decodeLine N j v ≡ Refused n → stepLine (readLine (take lineWidth (drop at b))) j N ≡ stop n
+    pub line-stops : (n : ℕ) → decodeLine N j v ≡ Refused n → stepLine (readLine w (take (lineBytes w) (drop at b))) j N ≡ stop n
     line-stops n e = step-is ∙ sym (decoded-step N j v) ∙ ap (stepOf N j) e
 
     -- what it adds is added
     pub line-goes-on : (x : Entry) → decodeLine N j v ≡ Allowed x → addLine N j v ≡ next (withEntry N j x)
     line-goes-on x e = sym (decoded-step N j v) ∙ ap (stepOf N j) e
 
-    pub line-steps : (x : Entry) → decodeLine N j v ≡ Allowed x → stepLine (readLine (take lineWidth (drop at b))) j N ≡ next (withEntry N j x)
+    pub line-steps : (x : Entry) → decodeLine N j v ≡ Allowed x → stepLine (readLine w (take (lineBytes w) (drop at b))) j N ≡ next (withEntry N j x)
     line-steps x e = step-is ∙ line-goes-on x e
 
 -- ---- the end of the sheet, by the answer of the rows over the graph

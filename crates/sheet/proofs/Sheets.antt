@@ -7,24 +7,24 @@ use Rattle.net.specs.SignalTable.{signalCount}
 use Rattle.net.proofs.Concrete.{vertex, edge, net, model}
 use Rattle.ternary.specs.Lists.{same}
 use Rattle.sheet.specs.Field.{column, writeField, fieldValue, readField}
-use Rattle.sheet.specs.Line.{writeLine, fieldAt, fiveFields, readLine, hasLine, sheetLine, lineNumber}
+use Rattle.sheet.specs.Line.{writeLine, fieldAt, fiveFields, readLine, hasLine, lineIn, lineNumberIn}
 use Rattle.sheet.specs.Rows.{firstRow}
 use Rattle.sheet.specs.Record.{startNet, emptyNet}
 use Rattle.sheet.specs.Rules.{countsOk, headerOk, vertexOk, symbolOk, edgeOk}
 use Rattle.sheet.specs.Graph.{isPartner, lacksPartner, partnerPlace, keyPlace, overSignals, signalPlace, graphRows}
-use Rattle.sheet.specs.Reading.{vertexLineOk, edgeLineOk, addLine, stepLine, conclude, readLines, sizeOk, readHeader, readSheet}
-use Rattle.sheet.specs.Writing.{vertexLines, edgeLines, writeSheet}
+use Rattle.sheet.specs.Reading.{vertexLineOk, edgeLineOk, addLine, stepLine, conclude, readLines, sizeOk, readHeader, readIn}
+use Rattle.sheet.specs.Writing.{vertexLines, edgeLines, writeIn}
 use Rattle.sheet.specs.Valid.{allOf, isNoVertex, isNoEdge, passes, valid}
-use Rattle.sheet.specs.Job.{jobOf}
+use Rattle.sheet.specs.Job.{jobIn}
 use Rattle.sheet.specs.Text.{bytes}
 
 -- `unfolding open-all` opens every definition of the sheet and of the net
 unfoldable pub open-all : Unit {0}
 unfolding
-    model net signalCount same column writeField fieldValue readField writeLine fieldAt fiveFields readLine hasLine sheetLine lineNumber
+    model net signalCount same column writeField fieldValue readField writeLine fieldAt fiveFields readLine hasLine lineIn lineNumberIn
     firstRow startNet emptyNet countsOk headerOk vertexOk symbolOk edgeOk isPartner lacksPartner partnerPlace keyPlace overSignals
-    signalPlace graphRows vertexLineOk edgeLineOk addLine stepLine conclude readLines sizeOk readHeader readSheet vertexLines edgeLines
-    writeSheet allOf isNoVertex isNoEdge passes valid jobOf
+    signalPlace graphRows vertexLineOk edgeLineOk addLine stepLine conclude readLines sizeOk readHeader readIn vertexLines edgeLines
+    writeIn allOf isNoVertex isNoEdge passes valid jobIn
 open-all = tt
 
 -- document 01's sheet with other lines 1, 5 and 8

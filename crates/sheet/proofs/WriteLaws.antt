@@ -1,8 +1,8 @@
 -- The sheet of a valid record reads to that record.
 use Prim.Native.Nat.{ℕ, suc, _+_, _-_, _*_, _/_, _%_, _≤_, _<_}
-use native.Mathlib.Nat.{zero-add, add-zero, suc-add, add-suc}
+use native.Mathlib.Nat.{zero-add, add-zero, suc-add, add-suc, mul-zero, mul-suc, mul-add, mul-le-mul-left}
 use native.Mathlib.Omega.{arith}
-use mathlib.Core.Path.{_≡_, refl, ap, ap₂, _∙_}
+use mathlib.Core.Path.{_≡_, refl, sym, ap, ap₂, _∙_}
 use mathlib.Core.Bool.{true}
 use mathlib.Core.List.{List, [], _∷_, _++_, append-assoc}
 use mathlib.Core.Option.{some}
@@ -15,17 +15,18 @@ use Rattle.net.specs.declared.Net.{Net}
 use Rattle.net.specs.Limits.{mostVertices, mostEdges}
 use Rattle.net.specs.Graph.{noVertex, noEdge, vertexAt, hasRole, isStorage}
 use Rattle.ternary.proofs.Tests.{ands}
-use Rattle.sheet.specs.Limits.{lineWidth, mostLines, mostBytes}
+use Rattle.sheet.specs.Limits.{lineBytes, mostLines, sheetBytes}
 use Rattle.sheet.specs.declared.Line.{Line}
 use Rattle.sheet.specs.Line.{readLine, writeLine}
 use Rattle.sheet.specs.Rows.{firstRow}
 use Rattle.sheet.specs.Record.{startNet, accepted}
 use Rattle.sheet.specs.Rules.{headerOk, vertexOk, symbolOk, edgeOk}
 use Rattle.sheet.specs.Graph.{graphRows}
-use Rattle.sheet.specs.Reading.{withVertices, withEdges, vertexLineOk, edgeLineOk, addLine, stepLine, conclude, readLines, sizeOk, readHeader, readSheet}
+use Rattle.sheet.specs.Reading.{withVertices, withEdges, vertexLineOk, edgeLineOk, addLine, stepLine, conclude, readLines, sizeOk, readHeader, readIn}
 use Rattle.sheet.specs.Reading.Step.{next}
-use Rattle.sheet.specs.Writing.{headerLine, vertexLine, edgeLine, vertexLines, edgeLines, writeSheet}
+use Rattle.sheet.specs.Writing.{headerLine, vertexLine, edgeLine, vertexLines, edgeLines, writeIn}
 use Rattle.sheet.specs.Valid.{allOf, isNoVertex, isNoEdge, valid}
+use Rattle.sheet.proofs.WholeLines.{line-count, lines-fill, holds-thousand}
 use Rattle.sheet.proofs.LineLaws.{SmallLine, read-write-line, take-line, drop-line, length-line}
 use Rattle.sheet.proofs.RuleLaws.{vertex-range, edge-range, no-vertex, no-edge}
 use Rattle.sheet.proofs.Places.{restored, all-same}
@@ -33,11 +34,11 @@ use Rattle.sheet.proofs.Validity.{Valid, valid-iff, counts-of}
 
 -- ---- one written line is read
 
-read-line : (v : Line) (rest : List ℕ) (left j : ℕ) (N N′ : Net) → SmallLine v → addLine N j v ≡ next N′
-    → readLines (suc left) (writeLine v ++ rest) j N ≡ readLines left rest (suc j) N′
+read-line : (w : ℕ) (v : Line) (rest : List ℕ) (left j : ℕ) (N N′ : Net) → SmallLine w v → addLine N j v ≡ next N′
+    → readLines w (suc left) (writeLine w v ++ rest) j N ≡ readLines w left rest (suc j) N′
 unfolding readLines stepLine
-read-line v rest left j N N′ s e =
-    let read : readLine (take lineWidth (writeLine v ++ rest)) ≡ some v = rw take-line (read-write-line v s) in
+read-line w v rest left j N N′ s e =
+    let read : readLine w (take (lineBytes w) (writeLine w v ++ rest)) ≡ some v = rw take-line (read-write-line w v s) in
     rw (read, readLines, e, drop-line)
 
 add-vertex : (N : Net) (j : ℕ) (x : Vertex) → j < N .«vertex_count» → vertexOk N x ≡ true
@@ -55,56 +56,58 @@ add-edge N k e ok =
 
 -- ---- the vertex lines, then the edge lines
 
-read-vertices : (N : Net) (j : ℕ) (xs : List Vertex) (rest : List ℕ) (left : ℕ)
+read-vertices : (w : ℕ) → 3 ≤ w → (N : Net) (j : ℕ) (xs : List Vertex) (rest : List ℕ) (left : ℕ)
     → N .«vertex_count» ≤ mostVertices → j + length xs ≤ N .«vertex_count» → allOf (vertexOk N) xs ≡ true
-    → readLines (length xs + left) (vertexLines j xs ++ rest) j N ≡ readLines left rest (j + length xs) (withVertices N (sets (N .vertices) j xs))
+    → readLines w (length xs + left) (vertexLines w j xs ++ rest) j N ≡ readLines w left rest (j + length xs) (withVertices N (sets (N .vertices) j xs))
 unfolding allOf vertexLines vertexOk
-read-vertices N j [] rest left most h ok = rw (zero-add, add-zero)
-read-vertices N j (x ∷ xs) rest left most h ok =
+read-vertices w wide N j [] rest left most h ok = rw (zero-add, add-zero)
+read-vertices w wide N j (x ∷ xs) rest left most h ok =
     let okx : vertexOk N x ≡ true = search ands in
+    let thousand = holds-thousand w wide in
     let s = vertex-range N x okx in
-    let small : SmallLine (vertexLine j x) = omega arith in
+    let small : SmallLine w (vertexLine j x) = omega arith in
     let N′ : Net = withVertices N (set (N .vertices) j x) in
     rw (suc-add, append-assoc, add-suc)
-    (read-line (vertexLine j x) (vertexLines (suc j) xs ++ rest) (length xs + left) j N N′ small (add-vertex N j x (omega arith) okx)
-    ∙ read-vertices N′ (suc j) xs rest left most (omega arith) (search ands)
+    (read-line w (vertexLine j x) (vertexLines w (suc j) xs ++ rest) (length xs + left) j N N′ small (add-vertex N j x (omega arith) okx)
+    ∙ read-vertices w wide N′ (suc j) xs rest left most (omega arith) (search ands)
     ∙ rw suc-add)
 
-read-edges : (N : Net) (k : ℕ) (es : List Edge) → N .«vertex_count» ≤ mostVertices → allOf (edgeOk N) es ≡ true
-    → readLines (length es) (edgeLines es) (N .«vertex_count» + k) N
+read-edges : (w : ℕ) → 3 ≤ w → (N : Net) (k : ℕ) (es : List Edge) → N .«vertex_count» ≤ mostVertices → allOf (edgeOk N) es ≡ true
+    → readLines w (length es) (edgeLines w es) (N .«vertex_count» + k) N
     ≡ conclude (withEdges N (sets (N .edges) k es)) (firstRow (graphRows (withEdges N (sets (N .edges) k es))))
 unfolding readLines allOf edgeLines edgeOk symbolOk isStorage hasRole vertexAt
-read-edges N k [] most ok = refl
-read-edges N k (e ∷ es) most ok =
+read-edges w wide N k [] most ok = refl
+read-edges w wide N k (e ∷ es) most ok =
     let oke : edgeOk N e ≡ true = search ands in
+    let thousand = holds-thousand w wide in
     let s = edge-range N e oke in
-    let small : SmallLine (edgeLine e) = omega arith in
+    let small : SmallLine w (edgeLine e) = omega arith in
     let N′ : Net = withEdges N (set (N .edges) k e) in
-    read-line (edgeLine e) (edgeLines es) (length es) (N .«vertex_count» + k) N N′ small (add-edge N k e oke)
-    ∙ rw (← (add-suc (N .«vertex_count») k)) (read-edges N′ (suc k) es most (search ands))
+    read-line w (edgeLine e) (edgeLines w es) (length es) (N .«vertex_count» + k) N N′ small (add-edge N k e oke)
+    ∙ rw (← (add-suc (N .«vertex_count») k)) (read-edges w wide N′ (suc k) es most (search ands))
 
-pub length-vertices : (j : ℕ) (xs : List Vertex) → length (vertexLines j xs) ≡ lineWidth * length xs
+pub length-vertices : (w j : ℕ) (xs : List Vertex) → length (vertexLines w j xs) ≡ lineBytes w * length xs
 unfolding vertexLines
-length-vertices j [] = refl
-length-vertices j (x ∷ xs) =
-    let ih = length-vertices (suc j) xs in
-    rw length-append (omega (arith, length-line (vertexLine j x)))
+length-vertices w j [] = sym (mul-zero (lineBytes w))
+length-vertices w j (x ∷ xs) =
+    let ih = length-vertices w (suc j) xs in
+    rw length-append (omega (arith, length-line w (vertexLine j x), mul-suc (lineBytes w) (length xs)))
 
-pub length-edges : (es : List Edge) → length (edgeLines es) ≡ lineWidth * length es
+pub length-edges : (w : ℕ) (es : List Edge) → length (edgeLines w es) ≡ lineBytes w * length es
 unfolding edgeLines
-length-edges [] = refl
-length-edges (e ∷ es) =
-    let ih = length-edges es in
-    rw length-append (omega (arith, length-line (edgeLine e)))
+length-edges w [] = sym (mul-zero (lineBytes w))
+length-edges w (e ∷ es) =
+    let ih = length-edges w es in
+    rw length-append (omega (arith, length-line w (edgeLine e), mul-suc (lineBytes w) (length es)))
 
 -- the lines below the header
-read-body : (N : Net) → Valid N
-    → readLines (N .«vertex_count» + N .«edge_count»)
-    (vertexLines 0 (take (N .«vertex_count») (N .vertices)) ++ edgeLines (take (N .«edge_count») (N .edges)))
+read-body : (w : ℕ) → 3 ≤ w → (N : Net) → Valid N
+    → readLines w (N .«vertex_count» + N .«edge_count»)
+    (vertexLines w 0 (take (N .«vertex_count») (N .vertices)) ++ edgeLines w (take (N .«edge_count») (N .edges)))
     0 (startNet (N .«vertex_count») (N .«edge_count») (N .«letter_count»))
     ≡ accepted N
 unfolding startNet conclude vertexOk edgeOk symbolOk isStorage hasRole vertexAt
-read-body N f =
+read-body w wide N f =
     let c = counts-of N f in
     let vs : List Vertex = take (N .«vertex_count») (N .vertices) in
     let es : List Edge = take (N .«edge_count») (N .edges) in
@@ -115,43 +118,50 @@ read-body N f =
     (all-same isNoVertex noVertex no-vertex _ (f .vertices-end)) in
     let e-same = restored noEdge mostEdges (N .«edge_count») (N .edges) (f .edge-places) (c .edges)
     (all-same isNoEdge noEdge no-edge _ (f .edges-end)) in
-    ap (λ (n : ℕ). readLines n (vertexLines 0 vs ++ edgeLines es) 0 start) (omega arith)
-    ∙ read-vertices start 0 vs (edgeLines es) (length es) (c .vertices) (omega arith) (f .vertices)
-    ∙ ap₂ (λ (n : ℕ) (l : List Vertex). readLines (length es) (edgeLines es) n (withVertices start l)) (omega arith) v-same
-    ∙ read-edges (withEdges N (replicate mostEdges noEdge)) 0 es (c .vertices) (f .edges)
+    ap (λ (n : ℕ). readLines w n (vertexLines w 0 vs ++ edgeLines w es) 0 start) (omega arith)
+    ∙ read-vertices w wide start 0 vs (edgeLines w es) (length es) (c .vertices) (omega arith) (f .vertices)
+    ∙ ap₂ (λ (n : ℕ) (l : List Vertex). readLines w (length es) (edgeLines w es) n (withVertices start l)) (omega arith) v-same
+    ∙ read-edges w wide (withEdges N (replicate mostEdges noEdge)) 0 es (c .vertices) (f .edges)
     ∙ ap (λ (l : List Edge). conclude (withEdges N l) (firstRow (graphRows (withEdges N l)))) e-same
     ∙ ap (conclude N) (f .graph)
 
 -- ---- the header
 
-size-passed : (n k : ℕ) → n ≡ lineWidth * (1 + k) → 1 + k ≤ mostLines → sizeOk n ≡ true
+size-passed : (w n k : ℕ) → n ≡ lineBytes w * (1 + k) → 1 + k ≤ mostLines → sizeOk w n ≡ true
 unfolding sizeOk
-size-passed n k e h = rw (le-leb 1 n (omega arith), eq-eqb (n % lineWidth) 0 (omega arith), le-leb n mostBytes (omega arith))
+size-passed w n k e h =
+    let first : lineBytes w * 1 ≤ lineBytes w * (1 + k) = mul-le-mul-left (lineBytes w) (omega arith) in
+    let most : lineBytes w * (1 + k) ≤ sheetBytes w = mul-le-mul-left (lineBytes w) h in
+    rw (le-leb 1 n (omega (arith, e, first)), eq-eqb (n % lineBytes w) 0 (lines-fill (lineBytes w) n (1 + k) (omega arith) e), le-leb n (sheetBytes w) (rw e most))
 
-header-read : (b : List ℕ) (h : Line) → sizeOk (length b) ≡ true → readLine (take lineWidth b) ≡ some h → headerOk h ≡ true
-    → length b / lineWidth ≡ 1 + h .second + h .third
-    → readSheet b ≡ readLines (h .second + h .third) (drop lineWidth b) 0 (startNet (h .second) (h .third) (h .fourth))
-unfolding readSheet readHeader
-header-read b h size first ok lines = rw (size, first, ok, eq-eqb (length b / lineWidth) (1 + h .second + h .third) lines)
+header-read : (w : ℕ) (b : List ℕ) (h : Line) → sizeOk w (length b) ≡ true → readLine w (take (lineBytes w) b) ≡ some h → headerOk h ≡ true
+    → length b / lineBytes w ≡ 1 + h .second + h .third
+    → readIn w b ≡ readLines w (h .second + h .third) (drop (lineBytes w) b) 0 (startNet (h .second) (h .third) (h .fourth))
+unfolding readIn readHeader
+header-read w b h size first ok lines = rw (size, first, ok, eq-eqb (length b / lineBytes w) (1 + h .second + h .third) lines)
 
-length-sheet : (N : Net) → Valid N → length (writeSheet N) ≡ lineWidth * (1 + (N .«vertex_count» + N .«edge_count»))
-unfolding writeSheet
-length-sheet N f =
+length-sheet : (w : ℕ) (N : Net) → Valid N → length (writeIn w N) ≡ lineBytes w * (1 + (N .«vertex_count» + N .«edge_count»))
+unfolding writeIn
+length-sheet w N f =
     let c = counts-of N f in
     let v-fits : N .«vertex_count» ≤ length (N .vertices) = omega (arith, f .vertex-places) in
     let e-fits : N .«edge_count» ≤ length (N .edges) = omega (arith, f .edge-places) in
-    simp (length-append, length-line, length-vertices, length-edges, length-take-le) (omega arith)
+    let v-size = length-take-le (N .«vertex_count») (N .vertices) v-fits in
+    let e-size = length-take-le (N .«edge_count») (N .edges) e-fits in
+    rw (length-append, length-append, length-line, length-vertices, length-edges, v-size, e-size)
+    (omega (arith, mul-suc (lineBytes w) (N .«vertex_count» + N .«edge_count»), mul-add (lineBytes w) (N .«vertex_count») (N .«edge_count»)))
 
-pub read-write-sheet : (N : Net) → valid N ≡ true → readSheet (writeSheet N) ≡ accepted N
-unfolding writeSheet headerOk
-read-write-sheet N ok =
+pub read-write-sheet : (w : ℕ) → 3 ≤ w → (N : Net) → valid N ≡ true → readIn w (writeIn w N) ≡ accepted N
+unfolding writeIn headerOk
+read-write-sheet w wide N ok =
     let f = valid-iff N .0 ok in
     let c = counts-of N f in
-    let len = length-sheet N f in
-    let small : SmallLine (headerLine N) = omega arith in
-    header-read (writeSheet N) (headerLine N)
-    (size-passed (length (writeSheet N)) (N .«vertex_count» + N .«edge_count») len (omega arith))
-    (rw take-line (read-write-line (headerLine N) small))
+    let len = length-sheet w N f in
+    let thousand = holds-thousand w wide in
+    let small : SmallLine w (headerLine N) = omega arith in
+    header-read w (writeIn w N) (headerLine N)
+    (size-passed w (length (writeIn w N)) (N .«vertex_count» + N .«edge_count») len (omega arith))
+    (rw take-line (read-write-line w (headerLine N) small))
     (f .counts)
-    (omega arith)
-    ∙ rw drop-line (read-body N f)
+    (line-count (lineBytes w) (length (writeIn w N)) (1 + N .«vertex_count» + N .«edge_count») (omega arith) (len ∙ ap (λ (n : ℕ). lineBytes w * n) (omega arith)))
+    ∙ rw drop-line (read-body w wide N f)

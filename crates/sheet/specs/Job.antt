@@ -1,4 +1,4 @@
--- A job line: 4, old input state A, new input state B, start q, 0.
+-- A job line of w columns a field: 4, old input state A, new input state B, start q, 0.
 use Prim.Native.Nat.{ℕ, _^_, _<_}
 use mathlib.Core.Path.{_≡_}
 use mathlib.Core.Bool.{cond, _&&_}
@@ -11,15 +11,15 @@ use Rattle.sheet.specs.Limits.{fieldWidth}
 use Rattle.sheet.specs.Line.{line, writeLine, readLine}
 
 -- b is the line of this job
-pub record JobBytes (b : List ℕ) (A B q : ℕ) : Type 0 where
-  pub written : writeLine (line 4 A B q 0) ≡ b
-  pub old : A < 10 ^ fieldWidth
-  pub new : B < 10 ^ fieldWidth
-  pub start : q < 10 ^ fieldWidth
+pub record JobBytesIn (w : ℕ) (b : List ℕ) (A B q : ℕ) : Type 0 where
+  pub written : writeLine w (line 4 A B q 0) ≡ b
+  pub old : A < 10 ^ w
+  pub new : B < 10 ^ w
+  pub start : q < 10 ^ w
 
-unfoldable pub jobOf : List ℕ → JobLine
-jobOf b =
-    elim (readLine b) [
+unfoldable pub jobIn : ℕ → List ℕ → JobLine
+jobIn w b =
+    elim (readLine w b) [
       | none ↦ Refused
       | some v ↦ cond (eqb (v .kind) 4 && eqb (v .fifth) 0) (Asked (v .second) (v .third) (v .fourth)) Refused
     ]
@@ -28,3 +28,11 @@ jobOf b =
 abbrev pub jobNumber : JobLine → ℕ
 jobNumber (Asked A B q) = 0
 jobNumber Refused = 46
+
+-- ---- in the width in force
+
+abbrev pub JobBytes : List ℕ → ℕ → ℕ → ℕ → Type 0
+JobBytes b A B q = JobBytesIn fieldWidth b A B q
+
+abbrev pub jobOf : List ℕ → JobLine
+jobOf b = jobIn fieldWidth b

@@ -10,16 +10,27 @@ fieldWidth = 4
 abbrev pub fieldCount : ℕ
 fieldCount = 5
 
--- the fields, and the byte that ends the line
+-- the widest field that is read: the numbers of a line are held in 32 bits, and so each of 9 digits is, but not each of 10
+abbrev pub mostColumns : ℕ
+mostColumns = 9
+
+-- the bytes of a line with w columns a field: the fields, and the byte that ends the line
+abbrev pub lineBytes : ℕ → ℕ
+lineBytes w = w * fieldCount + 1
+
 abbrev pub lineWidth : ℕ
-lineWidth = fieldWidth * fieldCount + 1
+lineWidth = lineBytes fieldWidth
 
 -- a header, and a line for each vertex and each edge
 abbrev pub mostLines : ℕ
 mostLines = 1 + mostVertices + mostEdges
 
+-- the most bytes of a sheet
+abbrev pub sheetBytes : ℕ → ℕ
+sheetBytes w = lineBytes w * mostLines
+
 abbrev pub mostBytes : ℕ
-mostBytes = lineWidth * mostLines
+mostBytes = sheetBytes fieldWidth
 
 -- bytes: a blank, the digit 0 (the others follow it), the end of a line
 abbrev pub blank : ℕ
@@ -37,6 +48,7 @@ widths =
       field = fieldWidth;
       fields = fieldCount;
       line = lineWidth;
+      lines = mostLines;
       sheet = mostBytes;
       blank = blank;
       «digit_zero» = digitZero;

@@ -1,4 +1,4 @@
--- A line: five fields, then the byte that ends it; and one line of a sheet by its number.
+-- A line: five fields of w columns, then the byte that ends it; and one line of a sheet by its number.
 use Prim.Native.Nat.{ℕ, _-_, _*_, _≤_}
 use mathlib.Core.Bool.{Bool, cond, _&&_}
 use mathlib.Core.List.{List, [], _∷_, _++_}
@@ -9,23 +9,20 @@ use Rattle.ternary.specs.Lists.{same}
 use Rattle.sheet.specs.declared.Line.{Line}
 use Rattle.sheet.specs.declared.LineRead.{LineRead}
 use Rattle.sheet.specs.declared.LineRead.the-variants.{Five, Refused}
-use Rattle.sheet.specs.Limits.{fieldWidth, fieldCount, lineWidth, lineEnd}
+use Rattle.sheet.specs.Limits.{fieldWidth, fieldCount, lineBytes, lineEnd}
 use Rattle.sheet.specs.Field.{writeField, readField}
 
 abbrev pub line : ℕ → ℕ → ℕ → ℕ → ℕ → Line
 line a b c d e = record { kind = a; second = b; third = c; fourth = d; fifth = e }
 
-abbrev pub writeNumber : ℕ → List ℕ
-writeNumber n = writeField fieldWidth n
-
-unfoldable pub writeLine : Line → List ℕ
-writeLine v =
-    writeNumber (v .kind) ++ writeNumber (v .second) ++ writeNumber (v .third) ++ writeNumber (v .fourth) ++ writeNumber (v .fifth)
+unfoldable pub writeLine : ℕ → Line → List ℕ
+writeLine w v =
+    writeField w (v .kind) ++ writeField w (v .second) ++ writeField w (v .third) ++ writeField w (v .fourth) ++ writeField w (v .fifth)
     ++ lineEnd ∷ []
 
 -- the number in field i, counted from 0
-unfoldable pub fieldAt : List ℕ → ℕ → Option ℕ
-fieldAt b i = readField fieldWidth (take fieldWidth (drop (fieldWidth * i) b))
+unfoldable pub fieldAt : ℕ → List ℕ → ℕ → Option ℕ
+fieldAt w b i = readField w (take w (drop (w * i) b))
 
 unfoldable pub fiveFields : Option ℕ → Option ℕ → Option ℕ → Option ℕ → Option ℕ → Option Line
 fiveFields (some a) (some b) (some c) (some d) (some e) = some (line a b c d e)
@@ -36,11 +33,11 @@ fiveFields (some a) none c d e = none
 fiveFields none b c d e = none
 
 -- five fields, then the end of the line and nothing more
-unfoldable pub readLine : List ℕ → Option Line
-readLine b =
+unfoldable pub readLine : ℕ → List ℕ → Option Line
+readLine w b =
     cond
-    (same (drop (fieldWidth * fieldCount) b) (lineEnd ∷ []))
-    (fiveFields (fieldAt b 0) (fieldAt b 1) (fieldAt b 2) (fieldAt b 3) (fieldAt b 4))
+    (same (drop (w * fieldCount) b) (lineEnd ∷ []))
+    (fiveFields (fieldAt w b 0) (fieldAt w b 1) (fieldAt w b 2) (fieldAt w b 3) (fieldAt w b 4))
     none
 
 -- the code's answer for a line
@@ -51,18 +48,32 @@ lineAnswer (some v) = Five v
 -- ---- the call for one line of a sheet
 
 -- the sheet has a full line of number n, the first being 1
-pub record FullLine (b : List ℕ) (n : ℕ) : Type 0 where
+pub record FullLineIn (w : ℕ) (b : List ℕ) (n : ℕ) : Type 0 where
   pub first : 1 ≤ n
-  pub room : lineWidth * n ≤ length b
+  pub room : lineBytes w * n ≤ length b
 
 -- a test of it
-unfoldable pub hasLine : List ℕ → ℕ → Bool
-hasLine b n = leb 1 n && leb (lineWidth * n) (length b)
+unfoldable pub hasLine : ℕ → List ℕ → ℕ → Bool
+hasLine w b n = leb 1 n && leb (lineBytes w * n) (length b)
 
 -- that line's bytes, the caller's own part of the sheet; empty where there is none
-unfoldable pub sheetLine : List ℕ → ℕ → List ℕ
-sheetLine b n = cond (hasLine b n) (take lineWidth (drop (lineWidth * (n - 1)) b)) []
+unfoldable pub lineIn : ℕ → List ℕ → ℕ → List ℕ
+lineIn w b n = cond (hasLine w b n) (take (lineBytes w) (drop (lineBytes w * (n - 1)) b)) []
 
 -- 0, or 47 where there is none
-unfoldable pub lineNumber : List ℕ → ℕ → ℕ
-lineNumber b n = cond (hasLine b n) 0 47
+unfoldable pub lineNumberIn : ℕ → List ℕ → ℕ → ℕ
+lineNumberIn w b n = cond (hasLine w b n) 0 47
+
+-- ---- in the width in force
+
+abbrev pub writeNumber : ℕ → List ℕ
+writeNumber n = writeField fieldWidth n
+
+abbrev pub FullLine : List ℕ → ℕ → Type 0
+FullLine b n = FullLineIn fieldWidth b n
+
+abbrev pub sheetLine : List ℕ → ℕ → List ℕ
+sheetLine b n = lineIn fieldWidth b n
+
+abbrev pub lineNumber : List ℕ → ℕ → ℕ
+lineNumber b n = lineNumberIn fieldWidth b n

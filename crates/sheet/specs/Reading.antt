@@ -1,4 +1,4 @@
--- Reading a sheet: the header, then a line for each vertex, then a line for each edge, then the rows over the graph.
+-- Reading a sheet of w columns a field: the header, then a line for each vertex, then a line for each edge, then the rows over the graph.
 use Prim.Native.Nat.{ℕ, zero, suc, _+_, _-_, _/_, _%_}
 use mathlib.Core.Bool.{Bool, cond, _&&_}
 use mathlib.Core.List.{List}
@@ -10,7 +10,7 @@ use Rattle.net.specs.declared.Edge.{Edge}
 use Rattle.net.specs.declared.Net.{Net}
 use Rattle.sheet.specs.declared.Answer.{Answer}
 use Rattle.sheet.specs.declared.Reading.{Reading}
-use Rattle.sheet.specs.Limits.{lineWidth, mostBytes}
+use Rattle.sheet.specs.Limits.{fieldWidth, lineBytes, sheetBytes}
 use Rattle.sheet.specs.declared.Line.{Line}
 use Rattle.sheet.specs.Line.{readLine}
 use Rattle.sheet.specs.Rows.{answer, firstRow}
@@ -76,29 +76,33 @@ conclude N none = accepted N
 conclude N (some a) = refused a
 
 -- the lines that are left, from line j, with the record so far; reading stops at the first line refused
-unfoldable pub readLines : ℕ → List ℕ → ℕ → Net → Reading
-readLines zero rest j N = conclude N (firstRow (graphRows N))
-readLines (suc left) rest j N =
-    elim (stepLine (readLine (take lineWidth rest)) j N) [
-      | next N′ ↦ readLines left (drop lineWidth rest) (suc j) N′
+unfoldable pub readLines : ℕ → ℕ → List ℕ → ℕ → Net → Reading
+readLines w zero rest j N = conclude N (firstRow (graphRows N))
+readLines w (suc left) rest j N =
+    elim (stepLine (readLine w (take (lineBytes w) rest)) j N) [
+      | next N′ ↦ readLines w left (drop (lineBytes w) rest) (suc j) N′
       | stop n ↦ refused (answer n (j + 2))
     ]
 
 -- not length 0, a multiple of a line, and not above the limit
-unfoldable pub sizeOk : ℕ → Bool
-sizeOk n = leb 1 n && eqb (n % lineWidth) 0 && leb n mostBytes
+unfoldable pub sizeOk : ℕ → ℕ → Bool
+sizeOk w n = leb 1 n && eqb (n % lineBytes w) 0 && leb n (sheetBytes w)
 
 -- from line 1
-unfoldable pub readHeader : List ℕ → Option Line → Reading
-readHeader b none = refused (answer 12 1)
-readHeader b (some h) =
+unfoldable pub readHeader : ℕ → List ℕ → Option Line → Reading
+readHeader w b none = refused (answer 12 1)
+readHeader w b (some h) =
     cond
     (headerOk h)
     (cond
-    (eqb (length b / lineWidth) (1 + h .second + h .third))
-    (readLines (h .second + h .third) (drop lineWidth b) 0 (startNet (h .second) (h .third) (h .fourth)))
+    (eqb (length b / lineBytes w) (1 + h .second + h .third))
+    (readLines w (h .second + h .third) (drop (lineBytes w) b) 0 (startNet (h .second) (h .third) (h .fourth)))
     (refused (answer 14 0)))
     (refused (answer 13 1))
 
-unfoldable pub readSheet : List ℕ → Reading
-readSheet b = cond (sizeOk (length b)) (readHeader b (readLine (take lineWidth b))) (refused (answer 11 0))
+unfoldable pub readIn : ℕ → List ℕ → Reading
+readIn w b = cond (sizeOk w (length b)) (readHeader w b (readLine w (take (lineBytes w) b))) (refused (answer 11 0))
+
+-- in the width in force
+abbrev pub readSheet : List ℕ → Reading
+readSheet b = readIn fieldWidth b

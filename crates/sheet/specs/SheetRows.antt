@@ -1,4 +1,5 @@
--- Which number a sheet gets, and where: document 01's rows for a sheet, each a condition on its bytes. `readSheet` answers by them (`read-by-rows`).
+-- Which number a sheet of w columns a field gets, and where: document 01's rows for a sheet, each a condition on its bytes. `readIn` answers by them
+-- (`read-by-rows`).
 use Prim.Native.Nat.{ℕ, zero, suc, _+_, _*_, _/_}
 use mathlib.Core.Bool.{Bool, true, false, not, cond}
 use mathlib.Core.List.{List, [], _∷_, _++_}
@@ -12,7 +13,7 @@ use Rattle.net.specs.declared.Net.{Net}
 use Rattle.net.specs.Limits.{mostVertices, mostEdges}
 use Rattle.net.specs.Graph.{noVertex, noEdge}
 use Rattle.sheet.specs.declared.Line.{Line}
-use Rattle.sheet.specs.Limits.{lineWidth}
+use Rattle.sheet.specs.Limits.{fieldWidth, lineBytes}
 use Rattle.sheet.specs.Line.{line, readLine}
 use Rattle.sheet.specs.Rows.{Row, row, when, whenAt}
 use Rattle.sheet.specs.Rules.{headerOk}
@@ -20,8 +21,8 @@ use Rattle.sheet.specs.Graph.{graphRows}
 use Rattle.sheet.specs.Reading.{vertexOf, edgeOf, vertexLineOk, edgeLineOk, sizeOk}
 
 -- line n of a sheet, the header being line 0: its five numbers, or none where it is not five fields
-unfoldable pub lineAt : List ℕ → ℕ → Option Line
-lineAt b n = readLine (take lineWidth (drop (lineWidth * n) b))
+unfoldable pub lineAt : ℕ → List ℕ → ℕ → Option Line
+lineAt w b n = readLine w (take (lineBytes w) (drop (lineBytes w * n) b))
 
 -- is it not five fields?
 abbrev pub isMissing : Option Line → Bool
@@ -42,9 +43,9 @@ unfoldable pub inTurn : ℕ → ℕ → (ℕ → List Row) → List Row
 inTurn zero i f = []
 inTurn (suc m) i f = f i ++ inTurn m (suc i) f
 
-module _ (b : List ℕ) where
+module _ (w : ℕ) (b : List ℕ) where
   abbrev pub header : Line
-  header = numbersOf (lineAt b 0)
+  header = numbersOf (lineAt w b 0)
 
   -- V and E
   abbrev pub vertexCount : ℕ
@@ -55,10 +56,10 @@ module _ (b : List ℕ) where
 
   -- the lines of vertex j and of edge i, both from 0
   abbrev pub vertexLineAt : ℕ → Option Line
-  vertexLineAt j = lineAt b (1 + j)
+  vertexLineAt j = lineAt w b (1 + j)
 
   abbrev pub edgeLineAt : ℕ → Option Line
-  edgeLineAt i = lineAt b (1 + vertexCount + i)
+  edgeLineAt i = lineAt w b (1 + vertexCount + i)
 
   -- the record that the lines of a sheet give, be they allowed or not
   abbrev pub vertexFrom : ℕ → Vertex
@@ -67,8 +68,8 @@ module _ (b : List ℕ) where
   abbrev pub edgeFrom : ℕ → Edge
   edgeFrom i = edgeOf (numbersOf (edgeLineAt i))
 
-  unfoldable pub netOf : Net
-  netOf =
+  unfoldable pub netIn : Net
+  netIn =
       record {
         vertices = placed mostVertices vertexCount vertexFrom noVertex;
         edges = placed mostEdges edgeCount edgeFrom noEdge;
@@ -79,23 +80,30 @@ module _ (b : List ℕ) where
 
   -- line n is not five fields; its place is the line's number, counted from 1
   abbrev pub fieldsRow : ℕ → Row
-  fieldsRow n = row 12 (whenAt (suc n) (isMissing (lineAt b n)))
+  fieldsRow n = row 12 (whenAt (suc n) (isMissing (lineAt w b n)))
 
   -- the line of a vertex, and that of an edge: its fields, then its values
   unfoldable pub vertexRows : ℕ → List Row
-  vertexRows j = fieldsRow (1 + j) ∷ row 15 (whenAt (suc (1 + j)) (not (vertexLineOk netOf j (numbersOf (vertexLineAt j))))) ∷ []
+  vertexRows j = fieldsRow (1 + j) ∷ row 15 (whenAt (suc (1 + j)) (not (vertexLineOk netIn j (numbersOf (vertexLineAt j))))) ∷ []
 
   unfoldable pub edgeRows : ℕ → List Row
   edgeRows i =
       fieldsRow (1 + vertexCount + i)
-      ∷ row 16 (whenAt (suc (1 + vertexCount + i)) (not (edgeLineOk netOf (numbersOf (edgeLineAt i)))))
+      ∷ row 16 (whenAt (suc (1 + vertexCount + i)) (not (edgeLineOk netIn (numbersOf (edgeLineAt i)))))
       ∷ []
 
   -- its length; line 1; the number of lines; each later line in turn; the graph
-  unfoldable pub sheetRows : List Row
-  sheetRows =
-      row 11 (when (not (sizeOk (length b))))
+  unfoldable pub rowsIn : List Row
+  rowsIn =
+      row 11 (when (not (sizeOk w (length b))))
       ∷ fieldsRow 0
       ∷ row 13 (whenAt 1 (not (headerOk header)))
-      ∷ row 14 (when (not (eqb (length b / lineWidth) (1 + vertexCount + edgeCount))))
-      ∷ (inTurn vertexCount 0 vertexRows ++ (inTurn edgeCount 0 edgeRows ++ graphRows netOf))
+      ∷ row 14 (when (not (eqb (length b / lineBytes w) (1 + vertexCount + edgeCount))))
+      ∷ (inTurn vertexCount 0 vertexRows ++ (inTurn edgeCount 0 edgeRows ++ graphRows netIn))
+
+-- in the width in force
+abbrev pub netOf : List ℕ → Net
+netOf b = netIn fieldWidth b
+
+abbrev pub sheetRows : List ℕ → List Row
+sheetRows b = rowsIn fieldWidth b

@@ -1,4 +1,4 @@
--- The sheet of a record, edges in the record's order.
+-- The sheet of a record with w columns a field, edges in the record's order.
 use Prim.Native.Nat.{ℕ, suc}
 use mathlib.Core.List.{List, [], _∷_, _++_}
 use lib.ListN.{take}
@@ -6,6 +6,7 @@ use Rattle.net.specs.declared.Vertex.{Vertex}
 use Rattle.net.specs.declared.Edge.{Edge}
 use Rattle.net.specs.declared.Net.{Net}
 use Rattle.sheet.specs.declared.Line.{Line}
+use Rattle.sheet.specs.Limits.{fieldWidth}
 use Rattle.sheet.specs.Line.{line, writeLine}
 
 abbrev pub headerLine : Net → Line
@@ -18,16 +19,20 @@ vertexLine j x = line 2 (suc j) (x .role) (x .label) 0
 abbrev pub edgeLine : Edge → Line
 edgeLine e = line 3 (e .end1) (e .end2) (e .form) (e .symbol)
 
-unfoldable pub vertexLines : ℕ → List Vertex → List ℕ
-vertexLines j [] = []
-vertexLines j (x ∷ xs) = writeLine (vertexLine j x) ++ vertexLines (suc j) xs
+unfoldable pub vertexLines : ℕ → ℕ → List Vertex → List ℕ
+vertexLines w j [] = []
+vertexLines w j (x ∷ xs) = writeLine w (vertexLine j x) ++ vertexLines w (suc j) xs
 
-unfoldable pub edgeLines : List Edge → List ℕ
-edgeLines [] = []
-edgeLines (e ∷ es) = writeLine (edgeLine e) ++ edgeLines es
+unfoldable pub edgeLines : ℕ → List Edge → List ℕ
+edgeLines w [] = []
+edgeLines w (e ∷ es) = writeLine w (edgeLine e) ++ edgeLines w es
 
-unfoldable pub writeSheet : Net → List ℕ
-writeSheet N =
-    writeLine (headerLine N)
-    ++ (vertexLines 0 (take (N .«vertex_count») (N .vertices))
-    ++ edgeLines (take (N .«edge_count») (N .edges)))
+unfoldable pub writeIn : ℕ → Net → List ℕ
+writeIn w N =
+    writeLine w (headerLine N)
+    ++ (vertexLines w 0 (take (N .«vertex_count») (N .vertices))
+    ++ edgeLines w (take (N .«edge_count») (N .edges)))
+
+-- in the width in force
+abbrev pub writeSheet : Net → List ℕ
+writeSheet N = writeIn fieldWidth N

@@ -3,7 +3,8 @@
 //! `graph_rows`, `record` and `reader`.
 
 ghost use mathlib.Core.Path.{_≡_};
-ghost use Rattle.sheet.specs.Limits.{widths};
+ghost use Prim.Native.Nat.{_≤_};
+ghost use Rattle.sheet.specs.Limits.{mostColumns, lineBytes, widths};
 use net::Edge;
 use net::Net;
 use net::Vertex;
@@ -18,7 +19,9 @@ impl Sheet {
 
     pub const LINE_WIDTH: usize = Sheet::FIELD_WIDTH * Sheet::FIELDS + 1;
     // A header, and a line for each vertex and each edge.
-    pub const MOST_BYTES: usize = Sheet::LINE_WIDTH * (1 + Net::MOST_VERTICES + Net::MOST_EDGES);
+    pub const MOST_LINES: usize = 1 + Net::MOST_VERTICES + Net::MOST_EDGES;
+
+    pub const MOST_BYTES: usize = Sheet::LINE_WIDTH * Sheet::MOST_LINES;
     // The bytes of a sheet: blanks and digits, the other digits following 0, and the end of a line.
     pub const BLANK: u8 = 32;
 
@@ -29,28 +32,28 @@ impl Sheet {
 
 // What a field reads as.
 pub enum Field {
-    Number(u16),
+    Number(u32),
     Refused,
 }
 
 // The five numbers of a line; the first says of what kind the line is.
 pub struct Line {
-    pub kind: u16,
-    pub second: u16,
-    pub third: u16,
-    pub fourth: u16,
-    pub fifth: u16,
+    pub kind: u32,
+    pub second: u32,
+    pub third: u32,
+    pub fourth: u32,
+    pub fifth: u32,
 }
 
 impl Line {
     // The kinds of a line.
-    pub const HEADER: u16 = 1;
+    pub const HEADER: u32 = 1;
 
-    pub const VERTEX: u16 = 2;
+    pub const VERTEX: u32 = 2;
 
-    pub const EDGE: u16 = 3;
+    pub const EDGE: u32 = 3;
 
-    pub const JOB: u16 = 4;
+    pub const JOB: u32 = 4;
 }
 
 // What a line reads as.
@@ -149,6 +152,7 @@ pub struct Widths {
     pub field: usize,
     pub fields: usize,
     pub line: usize,
+    pub lines: usize,
     pub sheet: usize,
     pub blank: u8,
     pub digit_zero: u8,
@@ -163,9 +167,18 @@ pub fn widths_in_force() -> Widths
         field: Sheet::FIELD_WIDTH,
         fields: Sheet::FIELDS,
         line: Sheet::LINE_WIDTH,
+        lines: Sheet::MOST_LINES,
         sheet: Sheet::MOST_BYTES,
         blank: Sheet::BLANK,
         digit_zero: Sheet::DIGIT_ZERO,
         line_end: Sheet::LINE_END,
     }
+}
+
+// The bytes of a line with so many columns a field.
+pub fn line_bytes(columns: usize) -> usize
+    requires { ⌜ columns ≤ mostColumns ⌝ }
+    ensures { λ r. ⌜ r ≡ lineBytes columns ⌝ }
+{
+    columns * Sheet::FIELDS + 1
 }

@@ -9,6 +9,7 @@ use cases::Input;
 use cases::data_of;
 use cases::large_at;
 use cases::next_case;
+use cases::number_text;
 use libc::STDIN_FILENO;
 use libc::STDOUT_FILENO;
 use net::Net;
@@ -22,9 +23,9 @@ fn input_buffer() -> [u8; Input::MOST_BYTES]
     [0; Input::MOST_BYTES]
 }
 
-// A number in four columns.
+// A number in the columns of a field.
 fn print_column(n: u64) {
-    let text = fields::columns(n);
+    let text = number_text(n);
     io::write_all(STDOUT_FILENO, &text);
 }
 

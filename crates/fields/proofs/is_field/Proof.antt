@@ -1,14 +1,13 @@
 -- `is_field` meets its contract. The columns from i on agree with those of n, and rest is n without the digits to the right (`Agreeing`).
-use Prim.Native.Nat.{_-_}
-use mathlib.Core.Path.{sym, _∙_}
+use mathlib.Core.Path.{refl, sym, _∙_}
+use lib.ListN.{length}
 use borrow.Author.Needs.{needs}
-use Rattle.sheet.specs.Limits.{fieldWidth}
 use Rattle.sheet.proofs.FieldSteps.{Agreeing, last-agrees, last-differs, left-agrees, left-differs, all-agree}
 use Rattle.fields.proofs.is_field.Statement.{statement}
 use Rattle.fields.proofs.is_field.Tie as tie
 
 abbrev Inv-loop : tie.InvT-loop
-Inv-loop b n i₀ rest₀ i rest = Agreeing b fieldWidth n i rest
+Inv-loop b n i₀ rest₀ i rest = Agreeing b (length b) n i rest
 
 abbrev μ-loop : tie.MeasureT-loop
 μ-loop b n i₀ rest₀ i rest = i
@@ -23,10 +22,14 @@ last-column-requires : tie.Need-last-column-requires Inv-loop μ-loop
 last-column-requires c κs = search needs
 
 returns : tie.Need-returns Inv-loop μ-loop
-returns c = sym (last-differs _ (fieldWidth - 1) _ (λ e. c .if1 .taken (e ∙ sym (c .before .last-column .ensures))))
+returns c =
+    let start = c .before .before .before .before in
+    sym (last-differs _ _ _ refl (start .pre) (λ e. c .if1 .taken (e ∙ sym (c .before .last-column .ensures))))
 
 loop-holds : tie.Need-loop-holds Inv-loop μ-loop
-loop-holds c = last-agrees _ (fieldWidth - 1) _ (c .before .before .before .before .pre) (c .if1 .left ∙ c .before .last-column .ensures)
+loop-holds c =
+    let start = c .before .before .before .before in
+    last-agrees _ _ _ refl (start .pre) (c .if1 .left ∙ c .before .last-column .ensures)
 
 sub-i-2 : tie.Need-sub-i-2 Inv-loop μ-loop
 sub-i-2 c = search needs
@@ -48,8 +51,7 @@ loop-less c = search needs
 loop-again : tie.Need-loop-again Inv-loop μ-loop
 loop-again c =
     let t = c .before .before .before in
-    left-agrees _ _ _ _ _ (t .before .loop .inv) (t .loop-test .taken) (t .before .before .before .before .before .before .pre)
-    (c .if2 .left ∙ c .before .left-column .ensures)
+    left-agrees _ _ _ _ _ (t .before .loop .inv) (t .loop-test .taken) (c .if2 .left ∙ c .before .left-column .ensures)
 
 returns-3 : tie.Need-returns-3 Inv-loop μ-loop
 returns-3 c = sym (all-agree _ _ _ _ _ (c .before .loop .inv) (c .loop-test .left))

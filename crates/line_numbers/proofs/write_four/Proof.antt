@@ -6,8 +6,7 @@ use mathlib.Core.List.{append-assoc}
 use lib.Seq.{length-take-le}
 use borrow.Author.Needs.{needs}
 use Rattle.sheet.specs.Limits.{fieldWidth}
-use Rattle.settlements.proofs.FrontLaws.{first-part, next-part, last-part, all-written}
-use Rattle.output.proofs.Lengths.{length-number}
+use Rattle.settlements.proofs.FrontLaws.{first-field, next-field, last-field, all-written}
 use Rattle.line_numbers.proofs.write_four.Statement.{statement}
 use Rattle.line_numbers.proofs.write_four.Tie as tie
 
@@ -17,50 +16,50 @@ mul-two c = search needs
 mul-three : tie.Need-mul-three
 mul-three c = search needs
 
-slice-relend-prefix-write-number : tie.Need-slice-relend-prefix-write-number
-slice-relend-prefix-write-number c = search needs
+slice-relend-prefix-write-field : tie.Need-slice-relend-prefix-write-field
+slice-relend-prefix-write-field c = search needs
 
-slice-aggregate-write-number : tie.Need-slice-aggregate-write-number
-slice-aggregate-write-number c = sym (length-take-le _ (c .before .before .args .out .now) (omega arith))
+slice-aggregate-write-field : tie.Need-slice-aggregate-write-field
+slice-aggregate-write-field c = sym (length-take-le _ (c .before .before .args .out .now) (omega arith))
 
-write-number-requires : tie.Need-write-number-requires
-write-number-requires c κs = length-take-le _ (c .before .before .args .out .now) (omega arith)
+write-field-requires : tie.Need-write-field-requires
+write-field-requires c κs = search needs
 
-sub-write-number : tie.Need-sub-write-number
-sub-write-number c = search needs
+sub-write-field : tie.Need-sub-write-field
+sub-write-field c = search needs
 
-part-write-number-start : tie.Need-part-write-number-start
-part-write-number-start c = search needs
+part-write-field-start : tie.Need-part-write-field-start
+part-write-field-start c = search needs
 
-part-write-number-end : tie.Need-part-write-number-end
-part-write-number-end c = search needs
+part-write-field-end : tie.Need-part-write-field-end
+part-write-field-end c = search needs
 
-write-number-requires-2 : tie.Need-write-number-requires-2
-write-number-requires-2 c κs = search needs
+write-field-requires-2 : tie.Need-write-field-requires-2
+write-field-requires-2 c κs = search needs
 
-sub-write-number-2 : tie.Need-sub-write-number-2
-sub-write-number-2 c = search needs
+sub-write-field-2 : tie.Need-sub-write-field-2
+sub-write-field-2 c = search needs
 
-part-write-number-start-2 : tie.Need-part-write-number-start-2
-part-write-number-start-2 c = search needs
+part-write-field-start-2 : tie.Need-part-write-field-start-2
+part-write-field-start-2 c = search needs
 
-part-write-number-end-2 : tie.Need-part-write-number-end-2
-part-write-number-end-2 c = search needs
+part-write-field-end-2 : tie.Need-part-write-field-end-2
+part-write-field-end-2 c = search needs
 
-write-number-requires-3 : tie.Need-write-number-requires-3
-write-number-requires-3 c κs = search needs
+write-field-requires-3 : tie.Need-write-field-requires-3
+write-field-requires-3 c κs = search needs
 
-sub-write-number-3 : tie.Need-sub-write-number-3
-sub-write-number-3 c = search needs
+sub-write-field-3 : tie.Need-sub-write-field-3
+sub-write-field-3 c = search needs
 
-part-write-number-start-3 : tie.Need-part-write-number-start-3
-part-write-number-start-3 c = search needs
+part-write-field-start-3 : tie.Need-part-write-field-start-3
+part-write-field-start-3 c = search needs
 
-part-write-number-end-3 : tie.Need-part-write-number-end-3
-part-write-number-end-3 c = search needs
+part-write-field-end-3 : tie.Need-part-write-field-end-3
+part-write-field-end-3 c = search needs
 
-write-number-requires-4 : tie.Need-write-number-requires-4
-write-number-requires-4 c κs = search needs
+write-field-requires-4 : tie.Need-write-field-requires-4
+write-field-requires-4 c κs = search needs
 
 same-length : tie.Need-same-length
 same-length c = search needs
@@ -72,10 +71,10 @@ returns c =
     let second = third .before .before .before .before in
     let first = second .before .before .before .before in
     let s = first .before .before .before in
-    let f₁ = first-part (s .args .out .now) (first .write-number .ensures) (s .pre) (omega arith) (length-number _) in
-    let f₂ = next-part f₁ (2 * fieldWidth) (second .write-number2 .ensures) (omega arith) (omega arith) (length-number _) in
-    let f₃ = next-part f₂ (3 * fieldWidth) (third .write-number3 .ensures) (omega arith) (omega arith) (length-number _) in
-    let f₄ = last-part f₃ (fourth .write-number4 .ensures) (omega arith) (length-number _) in
+    let f₁ = first-field fieldWidth _ (s .args .out .now) (first .write-field .ensures) (s .pre) (omega arith) in
+    let f₂ = next-field f₁ fieldWidth _ (2 * fieldWidth) (second .write-field2 .ensures) (omega arith) (omega arith) in
+    let f₃ = next-field f₂ fieldWidth _ (3 * fieldWidth) (third .write-field3 .ensures) (omega arith) (omega arith) in
+    let f₄ = last-field f₃ fieldWidth _ (fourth .write-field4 .ensures) (omega arith) in
     all-written f₄ refl ∙ simp append-assoc
 
 pub write-four-spec : {M : Type 1} → statement M
@@ -84,20 +83,20 @@ write-four-spec =
     (tie.spec
     mul-two
     mul-three
-    slice-relend-prefix-write-number
-    slice-aggregate-write-number
-    write-number-requires
-    sub-write-number
-    part-write-number-start
-    part-write-number-end
-    write-number-requires-2
-    sub-write-number-2
-    part-write-number-start-2
-    part-write-number-end-2
-    write-number-requires-3
-    sub-write-number-3
-    part-write-number-start-3
-    part-write-number-end-3
-    write-number-requires-4
+    slice-relend-prefix-write-field
+    slice-aggregate-write-field
+    write-field-requires
+    sub-write-field
+    part-write-field-start
+    part-write-field-end
+    write-field-requires-2
+    sub-write-field-2
+    part-write-field-start-2
+    part-write-field-end-2
+    write-field-requires-3
+    sub-write-field-3
+    part-write-field-start-3
+    part-write-field-end-3
+    write-field-requires-4
     same-length
     returns)

@@ -1,15 +1,16 @@
 -- `field_of` meets its contract: the part that it hands on is the field.
+use native.Mathlib.Omega.{arith}
 use borrow.Author.Needs.{needs}
 use Rattle.sheet.specs.Line.{fieldAt}
-use Rattle.sheet.proofs.LineSteps.{part}
+use Rattle.sheet.proofs.LineSteps.{part, field-end}
 use Rattle.line_values.proofs.field_of.Statement.{statement}
 use Rattle.line_values.proofs.field_of.Tie as tie
 
 mul-a : tie.Need-mul-a
-mul-a c = search needs
+mul-a c = omega (arith, field-end (c .before .args .columns) (c .before .args .i) (c .before .pre .3), c .before .pre .1, c .before .pre .2)
 
 add-e : tie.Need-add-e
-add-e c = search needs
+add-e c = omega (arith, field-end (c .before .args .columns) (c .before .args .i) (c .before .pre .3), c .before .pre .1, c .before .pre .2)
 
 sub-read-field : tie.Need-sub-read-field
 sub-read-field c = search needs
@@ -18,7 +19,7 @@ part-read-field-start : tie.Need-part-read-field-start
 part-read-field-start c = search needs
 
 part-read-field-end : tie.Need-part-read-field-end
-part-read-field-end c = search needs
+part-read-field-end c = omega (arith, field-end (c .before .args .columns) (c .before .args .i) (c .before .pre .3), c .before .pre .1, c .before .pre .2)
 
 read-field-requires : tie.Need-read-field-requires
 read-field-requires c κs = search needs

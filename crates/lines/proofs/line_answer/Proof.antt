@@ -1,7 +1,7 @@
 -- `line_answer` meets its contract.
 use mathlib.Core.Path.{sym, _∙_}
 use borrow.Author.Needs.{needs}
-use Rattle.sheet.specs.Line.{lineNumber}
+use Rattle.sheet.specs.Line.{lineNumberIn}
 use Rattle.lines.proofs.line_answer.Statement.{statement}
 use Rattle.lines.proofs.line_answer.Tie as tie
 
@@ -9,11 +9,11 @@ has-line-requires : tie.Need-has-line-requires
 has-line-requires c κs = search needs
 
 returns : tie.Need-returns
-unfolding lineNumber
+unfolding lineNumberIn
 returns c = rw (sym (c .before .has-line .ensures) ∙ c .if1 .taken)
 
 returns-2 : tie.Need-returns-2
-unfolding lineNumber
+unfolding lineNumberIn
 returns-2 c = rw (sym (c .before .has-line .ensures) ∙ c .if1 .left)
 
 pub line-answer-spec : {M : Type 1} → statement M

@@ -19,12 +19,12 @@ verdict-requires c κs = search needs
 key-count-requires : tie.Need-key-count-requires
 key-count-requires c κs =
     let e = c .before .before in
-    valid-fit _ (valid-at-zero _ _ (e .before .before .before .read .ensures) (e .if1 .left)) .readable
+    valid-fit _ (valid-at-zero _ _ _ (e .before .before .before .read .ensures) (e .if1 .left)) .readable
 
 cast-t8 : tie.Need-cast-t8
 cast-t8 c =
     let e = c .before .before .before in
-    record { fits = omega (arith, c .key-count .ensures, valid-fit _ (valid-at-zero _ _ (e .before .before .before .read .ensures) (e .if1 .left)) .keys) }
+    record { fits = omega (arith, c .key-count .ensures, valid-fit _ (valid-at-zero _ _ _ (e .before .before .before .read .ensures) (e .if1 .left)) .keys) }
 
 returns-2 : tie.Need-returns-2
 returns-2 c =

@@ -24,7 +24,7 @@ write-requires : tie.Need-write-requires
 write-requires c κs =
     let l = c .before in
     let e = l .before .before in
-    (valid-at-zero _ _ (e .before .before .before .read .ensures) (e .if2 .left), rw (l .read-lines .ensures) (read-few _ _), omega arith)
+    (valid-at-zero _ _ _ (e .before .before .before .read .ensures) (e .if2 .left), rw (l .read-lines .ensures) (read-few _ _), omega arith)
 
 same-length : tie.Need-same-length
 same-length c = search needs

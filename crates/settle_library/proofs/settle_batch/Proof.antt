@@ -28,7 +28,7 @@ batch-requires c κs = search needs
 key-count-requires : tie.Need-key-count-requires
 key-count-requires c κs =
     let e = c .before .before .before .before .before .before .before .before in
-    valid-fit _ (valid-at-zero _ _ (e .before .before .before .read .ensures) (e .if1 .left)) .readable
+    valid-fit _ (valid-at-zero _ _ _ (e .before .before .before .read .ensures) (e .if1 .left)) .readable
 
 cast-place-2 : tie.Need-cast-place-2
 cast-place-2 c = search needs
@@ -37,7 +37,7 @@ cast-h : tie.Need-cast-h
 cast-h c =
     let k = c .before in
     let e = k .before .before .before .before .before .before .before .before .before in
-    record { fits = omega (arith, k .key-count .ensures, valid-fit _ (valid-at-zero _ _ (e .before .before .before .read .ensures) (e .if1 .left)) .keys) }
+    record { fits = omega (arith, k .key-count .ensures, valid-fit _ (valid-at-zero _ _ _ (e .before .before .before .read .ensures) (e .if1 .left)) .keys) }
 
 cast-result-2 : tie.Need-cast-result-2
 cast-result-2 c = search needs

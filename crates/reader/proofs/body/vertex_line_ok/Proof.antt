@@ -1,7 +1,7 @@
 -- `vertex_line_ok` meets its contract: k, n and z are the places after the tests of the kind, the number and the last field.
 use native.Mathlib.Omega.{arith}
 use borrow.Author.Needs.{needs}
-use Rattle.sheet.proofs.BodySteps.{no-vertex-line, other-number, other-fifth, no-role, vertex-line}
+use Rattle.sheet.proofs.BodySteps.{no-vertex-line, other-number, other-fifth, no-role, no-label, vertex-line}
 use Rattle.reader.proofs.body.vertex_line_ok.Statement.{statement}
 use Rattle.reader.proofs.body.vertex_line_ok.Tie as tie
 
@@ -29,15 +29,18 @@ returns-4 c =
 returns-5 : tie.Need-returns-5
 returns-5 c = no-role _ _ _ (omega arith)
 
+returns-6 : tie.Need-returns-6
+returns-6 c = no-label _ _ _ (omega arith)
+
 vertex-of-requires : tie.Need-vertex-of-requires
 vertex-of-requires c κs = search needs
 
 vertex-ok-requires : tie.Need-vertex-ok-requires
 vertex-ok-requires c κs = search needs
 
-returns-6 : tie.Need-returns-6
-returns-6 c =
-    let z = c .before .before .before .before in
+returns-7 : tie.Need-returns-7
+returns-7 c =
+    let z = c .before .before .before .before .before .before in
     let n = z .before .before in
     let k = n .before .before .before .before in
     rw (c .vertex-ok .ensures, c .before .vertex-of .ensures) (vertex-line _ _ _ (k .if1 .left)
@@ -54,6 +57,7 @@ vertex-line-ok-spec =
     returns-3
     returns-4
     returns-5
+    returns-6
     vertex-of-requires
     vertex-ok-requires
-    returns-6)
+    returns-7)
