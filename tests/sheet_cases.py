@@ -4,8 +4,8 @@
 Each case has a note: the row or sentence of document 01 that its answer follows from. Running this file writes the input and the expected
 output of the test program `sheet_cases`. The expected numbers are worked out here by hand, never taken from a run.
 
-The kinds of cases: S a sheet, L one line of a sheet, whose number the case has, J a job line. The program prints an answer and the note on a line for
-each.
+The kinds of cases: S a sheet, L one line of a sheet, whose number the case has, J a job line; s, l and j the same in six columns a field, for the code
+takes any width; F a number, and in how many columns of a longer buffer it is written. The program prints an answer and the note on a line for each.
 """
 from case_files import case, store
 from sheets import field, line
@@ -65,6 +65,44 @@ def one_line(number, part, note, n, data):
 
 def job(answer, note, data):
     case(b"J", b"".join(field(n) for n in answer), note, data=data)
+
+
+# The wider fields, and the buffer that a field is written to.
+WIDE = 6
+BUFFER = 12
+
+
+def wide_line(*numbers):
+    return b"".join(b"%*d" % (WIDE, n) for n in numbers) + b"\n"
+
+
+def wide(*lines):
+    return b"".join(l if isinstance(l, bytes) else wide_line(*l) for l in lines)
+
+
+def wide_worked(**changes):
+    lines = list(WORKED)
+    for name, new in changes.items():
+        lines[int(name[1:]) - 1] = new
+    return wide(*lines)
+
+
+def wide_read(number, place, note, data):
+    case(b"s", field(number) + field(place) + field(1 if number == 0 else 0), note, data=data)
+
+
+def wide_part(part, note, n, data):
+    case(b"l", field(len(part)) + part, note, (n,), data)
+
+
+def written(columns, n, text, note):
+    """The text stands in the first columns of the buffer, and the bytes beyond stay as they were."""
+    assert len(text) == columns
+    case(b"F", text + b"?" * (BUFFER - columns), note, (n, columns))
+
+
+def wide_job(answer, note, data):
+    case(b"j", b"".join(b"%*d" % (WIDE, n) + b"?" * (BUFFER - WIDE) for n in answer) if answer else field(46), note, data=data)
 
 
 read(0, 0, "the worked example is accepted", worked())
@@ -163,5 +201,53 @@ job((46, 0, 0, 0), "row 46: kind 3", line(3, 0, 1, 1, 0))
 job((46, 0, 0, 0), "row 46: last field 1", line(4, 0, 1, 1, 1))
 job((46, 0, 0, 0), "row 46: a leading zero", b"   4  00   1   1   0\n")
 job((46, 0, 0, 0), "row 46: without byte 10", b"   4   0   1   1   0 ")
+
+# In six columns a line has 31 bytes; rows and places are those of four columns.
+wide_read(0, 0, "six columns: the worked example", wide_worked())
+wide_read(11, 0, "six columns: row 11: length 0", b"")
+wide_read(11, 0, "six columns: row 11: the worked example in four columns is no whole number of lines of 31 bytes", worked())
+read(11, 0, "row 11: the worked example in six columns is no whole number of lines of 21 bytes", wide_worked())
+wide_read(12, 1, "six columns: row 12: 31 lines of four columns are 21 lines of 31 bytes, and the first is not five fields", sheet(*[HEADER] * 31))
+wide_read(0, 0, "six columns: 289 lines are the limit, 96 vertices and 192 edges",
+          wide((1, 96, 192, 0, 1), *[(2, v + 1, 0, 0, 0) for v in range(96)], *[(3, 1, 2, 0, 0)] * 192))
+wide_read(11, 0, "six columns: row 11: 290 lines",
+          wide((1, 96, 193, 0, 1), *[(2, v + 1, 0, 0, 0) for v in range(96)], *[(3, 1, 2, 0, 0)] * 193))
+wide_read(12, 3, "six columns: row 12: a leading zero", wide_worked(l3=b"     2     2     0000001     0\n"))
+wide_read(12, 3, "six columns: row 12: without byte 10", wide_worked(l3=wide_line(2, 2, 0, 1, 0)[:-1] + b" "))
+wide_read(13, 1, "six columns: row 13, and not 12: 999,999 vertices", wide_worked(l1=(1, 999999, 4, 1, 1)))
+wide_read(13, 1, "six columns: row 13: 65,540 vertices, which are 4 in 16 bits", wide_worked(l1=(1, 65540, 4, 1, 1)))
+wide_read(13, 1, "six columns: row 13: edition 65,537", wide_worked(l1=(1, 4, 4, 1, 65537)))
+wide_read(14, 0, "six columns: row 14: one line short", wide(*WORKED[:-1]))
+wide_read(15, 3, "six columns: row 15, and not 12: label 65,537, which is 1 in 16 bits", wide_worked(l3=(2, 2, 0, 65537, 0)))
+wide_read(15, 3, "six columns: row 15: vertex number 65,538", wide_worked(l3=(2, 65538, 0, 1, 0)))
+wide_read(15, 5, "six columns: row 15: role 65,537", wide_worked(l5=(2, 4, 65537, 0, 0)))
+wide_read(16, 6, "six columns: row 16, and not 12: symbol 65,547, which is 11 in 16 bits", wide_worked(l6=(3, 2, 3, 1, 65547)))
+wide_read(16, 6, "six columns: row 16: end 65,538", wide_worked(l6=(3, 65538, 3, 1, 11)))
+wide_read(16, 6, "six columns: row 16: form 65,537", wide_worked(l6=(3, 2, 3, 65537, 11)))
+wide_read(21, 8, "six columns: row 21", wide_worked(l8=(3, 3, 4, 3, 11)))
+
+wide_part(wide_line(2, 1, 0, 0, 0), "six columns: line 2 of nine", 2, wide_worked())
+wide_part(wide_line(3, 4, 1, 0, 103), "six columns: the last line", 9, wide_worked())
+wide_part(b"", "six columns: no line 0", 0, wide_worked())
+wide_part(b"", "six columns: no line 10", 10, wide_worked())
+wide_part(b"", "six columns: a line of 30 bytes is not full", 1, wide_line(*HEADER)[:30])
+wide_part(b"", "six columns: no line of the largest number", 2 ** 32 - 1, wide_worked())
+
+wide_job((3, 12, 65535), "six columns: 4, A, B, q, 0", wide_line(4, 3, 12, 65535, 0))
+wide_job((999999, 999999, 999999), "any numbers of six columns", wide_line(4, 999999, 999999, 999999, 0))
+wide_job(None, "row 46: four columns where six are asked for", line(4, 0, 1, 1, 0))
+job((46, 0, 0, 0), "row 46: six columns where four are asked for", wide_line(4, 0, 1, 1, 0))
+wide_job(None, "row 46: kind 65,540, which is 4 in 16 bits", wide_line(65540, 0, 1, 1, 0))
+
+# A field: blanks, then the number without leading zeros; of a number of more digits the last ones.
+written(0, 7, b"", "no column: nothing is written")
+written(1, 7, b"7", "one column")
+written(4, 0, b"   0", "zero is one digit 0")
+written(4, 103, b" 103", "a blank before the first digit")
+written(4, 9999, b"9999", "a number that fills its field")
+written(4, 65535, b"5535", "a number of more digits: the last four")
+written(4, 10000, b"0000", "a number of more digits: the last four, zeros too")
+written(6, 65535, b" 65535", "six columns")
+written(12, 2 ** 32 - 1, b"  4294967295", "twelve columns, the whole buffer")
 
 store("sheet_cases")

@@ -12,10 +12,9 @@ use sheet::Decoded;
 use sheet::Entry;
 use sheet::Line;
 
-// A record's roles, forms and ends are bytes; a larger number of a line is none of them.
-const LARGEST: u32 = 255;
-// Its labels and symbols are of two bytes.
-const LARGEST_SYMBOL: u32 = 65535;
+// A record's roles, forms and ends are bytes, its labels and symbols are of two bytes; a larger number of a line is none of them.
+const LARGEST: u32 = u8::MAX as u32;
+const LARGEST_SYMBOL: u32 = u16::MAX as u32;
 
 fn vertex_of(v: Line) -> Vertex
     requires { do ⌜ (v .third ≤ (← ⟦LARGEST⟧)) × (v .fourth ≤ (← ⟦LARGEST_SYMBOL⟧)) ⌝ }

@@ -19,6 +19,7 @@ use Rattle.sheet.proofs.WholeLines.{holds-ten}
 use Rattle.sheet.proofs.LineLaws.{SmallLine, read-write-line, write-read-line}
 use Rattle.sheet.proofs.LineSteps.{five-of, unread-of}
 
+-- without a column the 4 that opens the line would not be written
 pub job-written : (w : ℕ) → 1 ≤ w → (A B q : ℕ) → A < 10 ^ w → B < 10 ^ w → q < 10 ^ w → jobIn w (writeLine w (line 4 A B q 0)) ≡ Asked A B q
 unfolding jobIn
 job-written w some-column A B q a b c =
@@ -26,7 +27,7 @@ job-written w some-column A B q a b c =
     let small : SmallLine w (line 4 A B q 0) = omega arith in
     rw (read-write-line w (line 4 A B q 0) small, jobIn)
 
--- `jobOf`, once its line is read
+-- `jobIn`, once its line is read
 abbrev jobFrom : Option Line → JobLine
 jobFrom none = Refused
 jobFrom (some v) = cond (eqb (v .kind) 4 && eqb (v .fifth) 0) (Asked (v .second) (v .third) (v .fourth)) Refused

@@ -33,3 +33,4 @@ pub mod Known
 pub mod JobLaws
 pub mod Sheets
 pub mod Examples
+pub mod WideExamples

@@ -1,4 +1,4 @@
--- An accepted sheet gives a valid record, whose sheet it is.
+-- An accepted sheet gives a valid record, whose sheet it is, in any width.
 use Prim.Native.Nat.{ℕ, suc, _+_, _*_, _%_, _≤_}
 use native.Mathlib.Nat.{zero-add, mul-zero}
 use native.Mathlib.Omega.{arith}
@@ -15,7 +15,7 @@ use Rattle.net.specs.Limits.{mostVertices, mostEdges}
 use Rattle.net.specs.Graph.{noVertex, noEdge}
 use Rattle.sheet.specs.declared.Line.{Line}
 use Rattle.sheet.specs.declared.Reading.{Reading}
-use Rattle.sheet.specs.Limits.{lineBytes}
+use Rattle.sheet.specs.Limits.{recordColumns, lineBytes}
 use Rattle.sheet.specs.Line.{writeLine}
 use Rattle.sheet.specs.Record.{accepted}
 use Rattle.sheet.specs.Rules.{headerOk, vertexOk, edgeOk}
@@ -151,8 +151,8 @@ accepted-net w b N e =
 pub read-valid : (w : ℕ) (b : List ℕ) (N : Net) → readIn w b ≡ accepted N → valid N ≡ true
 read-valid w b N e = let a = accepted-net w b N e in subst (λ (M : Net). valid M ≡ true) (a .1) (valid-iff (netIn w b) .1 (is-valid w b (a .0)))
 
--- the valid records are those that some accepted sheet gives: number 41 is for the others
-pub valid-iff-accepted : (w : ℕ) → 3 ≤ w → (N : Net) → (valid N ≡ true) ↔ ((b : List ℕ) × (readIn w b ≡ accepted N))
+-- the valid records are those that some accepted sheet gives: number 41 is for the others. In fewer columns some record has no sheet.
+pub valid-iff-accepted : (w : ℕ) → recordColumns ≤ w → (N : Net) → (valid N ≡ true) ↔ ((b : List ℕ) × (readIn w b ≡ accepted N))
 valid-iff-accepted w wide N = (λ ok. (writeIn w N, read-write-sheet w wide N ok), λ s. read-valid w (s .0) N (s .1))
 
 -- an accepted sheet is the sheet of its record

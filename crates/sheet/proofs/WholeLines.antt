@@ -7,6 +7,7 @@ use mathlib.Core.Logic.{_↔_}
 use lib.Dec.{ltb, lit<}
 use borrow.Author.Tests.{ltb-true, ltb-false}
 use Rattle.ternary.proofs.Tests.{by-test}
+use Rattle.sheet.specs.Limits.{recordColumns}
 
 module _ (L n : ℕ) where
   -- whole lines, and not none
@@ -42,5 +43,5 @@ line-within L j count h = rw (line-after L j) (mul-le-mul-left {m = 1 + (j + 1)}
 pub holds-ten : (w : ℕ) → 1 ≤ w → 10 ≤ 10 ^ w
 holds-ten w h = pow-le-pow-right {n = 10} (lit< tt) {i = 1} {j = w} h
 
-pub holds-thousand : (w : ℕ) → 3 ≤ w → 1000 ≤ 10 ^ w
-holds-thousand w h = pow-le-pow-right {n = 10} (lit< tt) {i = 3} {j = w} h
+pub holds-record : (w : ℕ) → recordColumns ≤ w → 10 ^ recordColumns ≤ 10 ^ w
+holds-record w h = pow-le-pow-right {n = 10} (lit< tt) {i = recordColumns} {j = w} h

@@ -1,4 +1,4 @@
--- The sheet of a valid record reads to that record.
+-- The sheet of a valid record reads to that record, in every width whose fields hold a record's numbers.
 use Prim.Native.Nat.{ℕ, suc, _+_, _-_, _*_, _/_, _%_, _≤_, _<_}
 use native.Mathlib.Nat.{zero-add, add-zero, suc-add, add-suc, mul-zero, mul-suc, mul-add, mul-le-mul-left}
 use native.Mathlib.Omega.{arith}
@@ -15,7 +15,7 @@ use Rattle.net.specs.declared.Net.{Net}
 use Rattle.net.specs.Limits.{mostVertices, mostEdges}
 use Rattle.net.specs.Graph.{noVertex, noEdge, vertexAt, hasRole, isStorage}
 use Rattle.ternary.proofs.Tests.{ands}
-use Rattle.sheet.specs.Limits.{lineBytes, mostLines, sheetBytes}
+use Rattle.sheet.specs.Limits.{recordColumns, lineBytes, mostLines, sheetBytes}
 use Rattle.sheet.specs.declared.Line.{Line}
 use Rattle.sheet.specs.Line.{readLine, writeLine}
 use Rattle.sheet.specs.Rows.{firstRow}
@@ -26,7 +26,7 @@ use Rattle.sheet.specs.Reading.{withVertices, withEdges, vertexLineOk, e
 use Rattle.sheet.specs.Reading.Step.{next}
 use Rattle.sheet.specs.Writing.{headerLine, vertexLine, edgeLine, vertexLines, edgeLines, writeIn}
 use Rattle.sheet.specs.Valid.{allOf, isNoVertex, isNoEdge, valid}
-use Rattle.sheet.proofs.WholeLines.{line-count, lines-fill, holds-thousand}
+use Rattle.sheet.proofs.WholeLines.{line-count, lines-fill, holds-record}
 use Rattle.sheet.proofs.LineLaws.{SmallLine, read-write-line, take-line, drop-line, length-line}
 use Rattle.sheet.proofs.RuleLaws.{vertex-range, edge-range, no-vertex, no-edge}
 use Rattle.sheet.proofs.Places.{restored, all-same}
@@ -56,14 +56,14 @@ add-edge N k e ok =
 
 -- ---- the vertex lines, then the edge lines
 
-read-vertices : (w : ℕ) → 3 ≤ w → (N : Net) (j : ℕ) (xs : List Vertex) (rest : List ℕ) (left : ℕ)
+read-vertices : (w : ℕ) → recordColumns ≤ w → (N : Net) (j : ℕ) (xs : List Vertex) (rest : List ℕ) (left : ℕ)
     → N .«vertex_count» ≤ mostVertices → j + length xs ≤ N .«vertex_count» → allOf (vertexOk N) xs ≡ true
     → readLines w (length xs + left) (vertexLines w j xs ++ rest) j N ≡ readLines w left rest (j + length xs) (withVertices N (sets (N .vertices) j xs))
 unfolding allOf vertexLines vertexOk
 read-vertices w wide N j [] rest left most h ok = rw (zero-add, add-zero)
 read-vertices w wide N j (x ∷ xs) rest left most h ok =
     let okx : vertexOk N x ≡ true = search ands in
-    let thousand = holds-thousand w wide in
+    let held = holds-record w wide in
     let s = vertex-range N x okx in
     let small : SmallLine w (vertexLine j x) = omega arith in
     let N′ : Net = withVertices N (set (N .vertices) j x) in
@@ -72,14 +72,14 @@ read-vertices w wide N j (x ∷ xs) rest left most h ok =
     ∙ read-vertices w wide N′ (suc j) xs rest left most (omega arith) (search ands)
     ∙ rw suc-add)
 
-read-edges : (w : ℕ) → 3 ≤ w → (N : Net) (k : ℕ) (es : List Edge) → N .«vertex_count» ≤ mostVertices → allOf (edgeOk N) es ≡ true
+read-edges : (w : ℕ) → recordColumns ≤ w → (N : Net) (k : ℕ) (es : List Edge) → N .«vertex_count» ≤ mostVertices → allOf (edgeOk N) es ≡ true
     → readLines w (length es) (edgeLines w es) (N .«vertex_count» + k) N
     ≡ conclude (withEdges N (sets (N .edges) k es)) (firstRow (graphRows (withEdges N (sets (N .edges) k es))))
 unfolding readLines allOf edgeLines edgeOk symbolOk isStorage hasRole vertexAt
 read-edges w wide N k [] most ok = refl
 read-edges w wide N k (e ∷ es) most ok =
     let oke : edgeOk N e ≡ true = search ands in
-    let thousand = holds-thousand w wide in
+    let held = holds-record w wide in
     let s = edge-range N e oke in
     let small : SmallLine w (edgeLine e) = omega arith in
     let N′ : Net = withEdges N (set (N .edges) k e) in
@@ -101,7 +101,7 @@ length-edges w (e ∷ es) =
     rw length-append (omega (arith, length-line w (edgeLine e), mul-suc (lineBytes w) (length es)))
 
 -- the lines below the header
-read-body : (w : ℕ) → 3 ≤ w → (N : Net) → Valid N
+read-body : (w : ℕ) → recordColumns ≤ w → (N : Net) → Valid N
     → readLines w (N .«vertex_count» + N .«edge_count»)
     (vertexLines w 0 (take (N .«vertex_count») (N .vertices)) ++ edgeLines w (take (N .«edge_count») (N .edges)))
     0 (startNet (N .«vertex_count») (N .«edge_count») (N .«letter_count»))
@@ -151,13 +151,14 @@ length-sheet w N f =
     rw (length-append, length-append, length-line, length-vertices, length-edges, v-size, e-size)
     (omega (arith, mul-suc (lineBytes w) (N .«vertex_count» + N .«edge_count»), mul-add (lineBytes w) (N .«vertex_count») (N .«edge_count»)))
 
-pub read-write-sheet : (w : ℕ) → 3 ≤ w → (N : Net) → valid N ≡ true → readIn w (writeIn w N) ≡ accepted N
+-- in fewer columns than `recordColumns` a symbol would lose its first digit
+pub read-write-sheet : (w : ℕ) → recordColumns ≤ w → (N : Net) → valid N ≡ true → readIn w (writeIn w N) ≡ accepted N
 unfolding writeIn headerOk
 read-write-sheet w wide N ok =
     let f = valid-iff N .0 ok in
     let c = counts-of N f in
     let len = length-sheet w N f in
-    let thousand = holds-thousand w wide in
+    let held = holds-record w wide in
     let small : SmallLine w (headerLine N) = omega arith in
     header-read w (writeIn w N) (headerLine N)
     (size-passed w (length (writeIn w N)) (N .«vertex_count» + N .«edge_count») len (omega arith))

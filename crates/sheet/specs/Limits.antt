@@ -14,6 +14,10 @@ fieldCount = 5
 abbrev pub mostColumns : ℕ
 mostColumns = 9
 
+-- the fewest columns that hold every number of a record: its symbols have three digits
+abbrev pub recordColumns : ℕ
+recordColumns = 3
+
 -- the bytes of a line with w columns a field: the fields, and the byte that ends the line
 abbrev pub lineBytes : ℕ → ℕ
 lineBytes w = w * fieldCount + 1

@@ -1,5 +1,6 @@
-//! Runs the cases of standard input through the reader, the one-line call and the job line, and prints each answer beside the case's note.
-//! tests/sheet_cases.py tells the layout of a case and where each expected answer comes from.
+//! Runs the cases of standard input through the reader, the one-line call and the job line, each in the width in force and in a wider one, and through
+//! the writer of a field, and prints each answer beside the case's note. tests/sheet_cases.py tells the layout of a case and where each expected answer
+//! comes from.
 
 ghost use Prim.Native.Nat.{_<_};
 ghost use mathlib.Core.Path.{_≡_};
@@ -13,6 +14,14 @@ use cases::number_text;
 use libc::STDIN_FILENO;
 use libc::STDOUT_FILENO;
 use sheet::JobLine;
+use sheet::Reading;
+
+// Columns of a field in the wider sheets and job lines.
+const WIDE: usize = 6;
+
+// The buffer that a field is written to, and what it holds before.
+const FIELD_BUFFER: usize = 12;
+const UNTOUCHED: u8 = b'?';
 
 // The buffer for the input. The clause tells its length, which lending a part needs.
 fn input_buffer() -> [u8; Input::MOST_BYTES]
@@ -21,27 +30,53 @@ fn input_buffer() -> [u8; Input::MOST_BYTES]
     [0; Input::MOST_BYTES]
 }
 
+fn field_buffer() -> [u8; FIELD_BUFFER]
+    ensures { λ r. do ⌜ (← ⟦FIELD_BUFFER⟧ .entry) ≡ length r ⌝ }
+{
+    [UNTOUCHED; FIELD_BUFFER]
+}
+
 // A number in the columns of a field.
 fn print_column(n: u64) {
     let text = number_text(n);
     io::write_all(STDOUT_FILENO, &text);
 }
 
+// The buffer with a number in its first columns; untouched where it has not so many.
+fn field_in(n: u64, columns: usize) -> [u8; FIELD_BUFFER]
+    ensures { λ r. do ⌜ (← ⟦FIELD_BUFFER⟧ .entry) ≡ length r ⌝ }
+{
+    let mut text = field_buffer();
+    if columns <= FIELD_BUFFER {
+        fields::write_field(&mut text[..columns], n);
+    }
+    text
+}
+
+// A number in so many columns, and the rest of the buffer.
+fn print_field(n: u64, columns: usize) {
+    let text = field_in(n, columns);
+    io::write_all(STDOUT_FILENO, &text);
+}
+
 // A sheet: number, place, and whether the record is one.
-fn print_reading(sheet: &[u8]) {
-    let reading = reader::read(sheet);
+fn print_reading(reading: Reading) {
     let net = reading.net;
     print_column(reading.answer.number as u64);
     print_column(reading.answer.place as u64);
     print_column(if record::is_record(net) { 1 } else { 0 });
 }
 
-// One line of a sheet: number, how many bytes are handed back, and these.
+// Bytes that are handed back: how many, and these.
+fn print_part(part: &[u8]) {
+    print_column(part.len() as u64);
+    io::write_all(STDOUT_FILENO, part);
+}
+
+// One line of a sheet: number, and its bytes.
 fn print_line(sheet: &[u8], n: usize) {
-    let line = lines::line(sheet, n);
     print_column(lines::line_answer(sheet, n) as u64);
-    print_column(line.len() as u64);
-    io::write_all(STDOUT_FILENO, line);
+    print_part(lines::line(sheet, n));
 }
 
 // A job line: 0 and its three numbers, or 46 and zeros.
@@ -62,6 +97,18 @@ fn print_job(bytes: &[u8]) {
     }
 }
 
+// A wide job line: its three numbers in a field of the buffer each, or 46.
+fn print_wide_job(bytes: &[u8]) {
+    match line_values::job_in(bytes, WIDE) {
+        JobLine::Asked(old, new, start) => {
+            print_field(old as u64, WIDE);
+            print_field(new as u64, WIDE);
+            print_field(start as u64, WIDE);
+        }
+        JobLine::Refused => print_column(46),
+    }
+}
+
 // A note, which ends the line of the case before it.
 fn print_note(note: &[u8]) {
     io::write_all(STDOUT_FILENO, note);
@@ -74,9 +121,13 @@ fn print_answer(cases: &[u8], at: usize)
     let bytes = data_of(cases, at);
     match cases[at] {
         b'#' => print_note(bytes),
-        b'S' => print_reading(bytes),
+        b'S' => print_reading(reader::read(bytes)),
+        b's' => print_reading(reader::read_in(bytes, WIDE)),
         b'L' => print_line(bytes, large_at(cases, at + Case::FIRST) as usize),
-        _ => print_job(bytes),
+        b'l' => print_part(lines::line_in(bytes, WIDE, large_at(cases, at + Case::FIRST) as usize)),
+        b'J' => print_job(bytes),
+        b'j' => print_wide_job(bytes),
+        _ => print_field(large_at(cases, at + Case::FIRST) as u64, large_at(cases, at + Case::SECOND) as usize),
     }
 }
 
