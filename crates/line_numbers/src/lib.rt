@@ -3,19 +3,17 @@
 
 ghost use mathlib.Core.Path.{_≡_};
 ghost use mathlib.Core.List.{_++_};
-ghost use Prim.Native.Nat.{_*_};
 ghost use lib.ListN.{length};
-ghost use Rattle.sheet.specs.Limits.{fieldWidth};
 ghost use Rattle.sheet.specs.Line.{writeNumber};
 ghost use Rattle.sheet.specs.Rows.{answer};
-ghost use Rattle.output.specs.Limits.{openingBytes};
+ghost use Rattle.output.specs.Limits.{fourFields, openingBytes};
 ghost use Rattle.output.specs.Output.{firstLine};
 use output::Report;
 use sheet::Sheet;
 
 // Four numbers, a field each.
 pub fn write_four(out: &mut [u8], first: u64, second: u64, third: u64, fourth: u64)
-    requires { ⌜ length (now out) ≡ 4 * fieldWidth ⌝ }
+    requires { ⌜ length (now out) ≡ fourFields ⌝ }
     ensures { λ _. ⌜ now (out .exit) ≡ writeNumber first ++ writeNumber second ++ writeNumber third ++ writeNumber fourth ⌝ }
 {
     let one = Sheet::FIELD_WIDTH;

@@ -14,7 +14,7 @@ use Rattle.ternary.proofs.Tests.{by-test}
 use Rattle.net.proofs.Classes.{getD-map-lt}
 use Rattle.sheet.specs.Limits.{fieldWidth, blank, digitZero, lineEnd}
 use Rattle.sheet.specs.Line.{writeNumber}
-use Rattle.output.specs.Limits.{letterX, hyphen}
+use Rattle.output.specs.Limits.{fourFields, letterX, hyphen}
 use Rattle.output.specs.Text.{character, vectorText, jobText}
 use Rattle.output.specs.Printed.{printedNumbers, printedAnswer, printedR, printedT, AgainstPrinted}
 use Rattle.output.proofs.Lengths.{length-number, length-four, length-vector}
@@ -98,7 +98,7 @@ module _ (h n : ℕ) (three own : List ℕ) (size : length own ≡ 2 * h) where
   unfolding jobText
   parts = simp append-assoc
 
-  numbers-length : length numbers ≡ 4 * fieldWidth
+  numbers-length : length numbers ≡ fourFields
   numbers-length = length-four n (at three 0) (at three 1) (at three 2)
 
   r-length : length r ≡ h
@@ -108,13 +108,13 @@ module _ (h n : ℕ) (three own : List ℕ) (size : length own ≡ 2 * h) where
   t-length = length-vector h (at three 0) (drop h own) (rw length-drop (omega arith))
 
   -- what follows the numbers and the first blank
-  after-numbers : drop (4 * fieldWidth + 1) (jobText h n three own) ≡ r ++ blank ∷ (t ++ lineEnd ∷ [])
+  after-numbers : drop (fourFields + 1) (jobText h n three own) ≡ r ++ blank ∷ (t ++ lineEnd ∷ [])
   after-numbers =
-      ap (drop (4 * fieldWidth + 1)) parts ∙ sym (drop-drop 1 (4 * fieldWidth) (numbers ++ blank ∷ (r ++ blank ∷ (t ++ lineEnd ∷ []))))
-      ∙ ap (drop 1) (drop-at numbers (blank ∷ (r ++ blank ∷ (t ++ lineEnd ∷ []))) (4 * fieldWidth) numbers-length)
+      ap (drop (fourFields + 1)) parts ∙ sym (drop-drop 1 fourFields (numbers ++ blank ∷ (r ++ blank ∷ (t ++ lineEnd ∷ []))))
+      ∙ ap (drop 1) (drop-at numbers (blank ∷ (r ++ blank ∷ (t ++ lineEnd ∷ []))) fourFields numbers-length)
 
   pub numbers-printed : printedNumbers (jobText h n three own) ≡ numbers
-  numbers-printed = ap (take (4 * fieldWidth)) parts ∙ take-at numbers _ (4 * fieldWidth) numbers-length
+  numbers-printed = ap (take fourFields) parts ∙ take-at numbers _ fourFields numbers-length
 
   pub r-printed : printedR h (jobText h n three own) ≡ r
   r-printed = ap (take h) after-numbers ∙ take-at r _ h r-length
@@ -122,7 +122,7 @@ module _ (h n : ℕ) (three own : List ℕ) (size : length own ≡ 2 * h) where
   pub t-printed : printedT h (jobText h n three own) ≡ t
   t-printed = ap (take h) behind ∙ take-at t _ h t-length
     where
-      behind : drop (4 * fieldWidth + 1 + h + 1) (jobText h n three own) ≡ t ++ lineEnd ∷ []
+      behind : drop (fourFields + 1 + h + 1) (jobText h n three own) ≡ t ++ lineEnd ∷ []
       behind =
-          sym (drop-drop 1 (4 * fieldWidth + 1 + h) (jobText h n three own))
-          ∙ ap (drop 1) (sym (drop-drop h (4 * fieldWidth + 1) (jobText h n three own)) ∙ ap (drop h) after-numbers ∙ drop-at r (blank ∷ (t ++ lineEnd ∷ [])) h r-length)
+          sym (drop-drop 1 (fourFields + 1 + h) (jobText h n three own))
+          ∙ ap (drop 1) (sym (drop-drop h (fourFields + 1) (jobText h n three own)) ∙ ap (drop h) after-numbers ∙ drop-at r (blank ∷ (t ++ lineEnd ∷ [])) h r-length)

@@ -14,14 +14,14 @@ use Rattle.sheet.specs.Line.{writeNumber}
 use Rattle.sheet.specs.declared.Answer.{Answer}
 use Rattle.sheet.proofs.FieldLaws.{length-field}
 use Rattle.settlements.specs.Batch.{answerWidth}
-use Rattle.output.specs.Limits.{openingBytes, jobBytes, hyphen}
+use Rattle.output.specs.Limits.{fourFields, openingBytes, jobBytes, hyphen}
 use Rattle.output.specs.Text.{vectorText, jobText, jobTexts}
 use Rattle.output.specs.Output.{firstLine, openingText}
 
 pub length-number : (n : ℕ) → length (writeNumber n) ≡ fieldWidth
 length-number n = length-field fieldWidth n
 
-pub length-four : (a b c d : ℕ) → length (writeNumber a ++ writeNumber b ++ writeNumber c ++ writeNumber d) ≡ 4 * fieldWidth
+pub length-four : (a b c d : ℕ) → length (writeNumber a ++ writeNumber b ++ writeNumber c ++ writeNumber d) ≡ fourFields
 length-four a b c d = simp (length-append, length-field)
 
 -- ---- the first line

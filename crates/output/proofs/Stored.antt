@@ -3,15 +3,13 @@ use Prim.Native.Nat.{ℕ, _+_, _-_, _*_, _≤_}
 use native.Mathlib.Omega.{arith}
 use mathlib.Core.Path.{_≡_, ap, _∙_}
 use mathlib.Core.List.{List, [], _∷_, _++_, append-assoc, append-nil}
-use lib.ListN.{length, take, drop, getD, set, length-drop, drop-of-length-le}
-use lib.Seq.{take-all, sets-eq}
+use lib.ListN.{length, take, drop, set, length-drop, drop-of-length-le}
+use lib.Seq.{take-all}
 use borrow.Rule.Slice.PartMut.{putMid}
-use Rattle.sheet.specs.Limits.{fieldWidth, blank, lineEnd}
-use Rattle.sheet.specs.Field.{writeField}
-use Rattle.sheet.specs.Line.{writeNumber}
+use Rattle.sheet.specs.Limits.{blank, lineEnd}
 use Rattle.settlements.proofs.FrontLaws.{Front, nothing, next-byte, next-part, lent-length, all-written}
 use Rattle.output.specs.Text.{vectorText}
-use Rattle.output.proofs.Lengths.{length-number, length-vector}
+use Rattle.output.proofs.Lengths.{length-vector}
 
 -- all characters of a vector
 pub vector-stored : (h number : ℕ) (vector : List ℕ) → h ≤ length vector → (out : List ℕ) → length out ≡ h

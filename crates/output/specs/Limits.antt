@@ -15,13 +15,17 @@ pieceJobs = 3333
 abbrev pub pieceLines : ℕ
 pieceLines = pieceJobs * lineWidth
 
+-- what each line opens with: four numbers, a field each
+abbrev pub fourFields : ℕ
+fourFields = 4 * fieldWidth
+
 -- the first line: four fields and its end
 abbrev pub openingBytes : ℕ
-openingBytes = 4 * fieldWidth + 1
+openingBytes = fourFields + 1
 
 -- the line of a job of h key nodes: four fields, two blanks, two vectors and its end
 abbrev pub jobBytes : ℕ → ℕ
-jobBytes h = 4 * fieldWidth + 2 * h + 3
+jobBytes h = fourFields + 2 * h + 3
 
 abbrev pub pieceBytes : ℕ
 pieceBytes = pieceJobs * jobBytes mostKeyNodes

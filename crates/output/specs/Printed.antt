@@ -5,7 +5,7 @@ use mathlib.Core.Logic.{_⊎_}
 use mathlib.Core.List.{List}
 use lib.ListN.{take, drop}
 use Rattle.sheet.specs.Limits.{fieldWidth, digitZero}
-use Rattle.output.specs.Limits.{openingBytes, jobBytes}
+use Rattle.output.specs.Limits.{fourFields, openingBytes, jobBytes}
 
 -- the line of job n, from 0, of a net of h key nodes
 abbrev pub printedLine : ℕ → ℕ → List ℕ → List ℕ
@@ -13,7 +13,7 @@ printedLine h n output = take (jobBytes h) (drop (openingBytes + n * jobBytes h)
 
 -- its four numbers
 abbrev pub printedNumbers : List ℕ → List ℕ
-printedNumbers line = take (4 * fieldWidth) line
+printedNumbers line = take fourFields line
 
 -- the second of them, the job's answer
 abbrev pub printedAnswer : List ℕ → List ℕ
@@ -21,10 +21,10 @@ printedAnswer line = take fieldWidth (drop fieldWidth line)
 
 -- r and t, each after a blank
 abbrev pub printedR : ℕ → List ℕ → List ℕ
-printedR h line = take h (drop (4 * fieldWidth + 1) line)
+printedR h line = take h (drop (fourFields + 1) line)
 
 abbrev pub printedT : ℕ → List ℕ → List ℕ
-printedT h line = take h (drop (4 * fieldWidth + 1 + h + 1) line)
+printedT h line = take h (drop (fourFields + 1 + h + 1) line)
 
 -- the value v is the other one of a printed 0 or 1
 abbrev pub AgainstPrinted : ℕ → ℕ → Type 0

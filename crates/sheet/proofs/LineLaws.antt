@@ -7,7 +7,7 @@ use mathlib.Core.Logic.{_↔_}
 use mathlib.Core.Bool.{true, false, true≢false}
 use mathlib.Core.List.{List, [], _∷_, _++_, append-assoc}
 use mathlib.Core.Option.{Option, none, some}
-use lib.ListN.{length, take, drop, length-take, length-drop, length-append, take-append-drop}
+use lib.ListN.{length, take, drop, length-drop, length-append, take-append-drop}
 use lib.Seq.{drop-drop, take-at, drop-at, length-take-le}
 use borrow.Author.Tests.{le-leb, leb-true}
 use Rattle.ternary.specs.Lists.{same}

@@ -11,7 +11,7 @@ use lib.ListN.{length}
 use borrow.Author.Tests.{not-false}
 use Rattle.sheet.specs.declared.Answer.{Answer}
 use Rattle.sheet.specs.declared.Reading.{Reading}
-use Rattle.sheet.specs.Limits.{lineBytes, mostLines}
+use Rattle.sheet.specs.Limits.{lineBytes}
 use Rattle.sheet.specs.Rows.{answer, row, whenAt, First}
 use Rattle.sheet.specs.Rows.First.{here, later}
 use Rattle.sheet.specs.Record.{accepted}
