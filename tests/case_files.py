@@ -1,12 +1,14 @@
 """How the generators collect and store the cases of their test programs.
 
-A case in the input: its kind (one byte), then five numbers and the size of its data, each in three fields of four columns with four decimal digits to a
-field, then the data. Numbers that a case does not need are 0. After each case comes its note as a case of the kind #, whose data are printed as they stand.
+A case in the input: its kind (one byte), then five numbers and the size of its data, each in a field, then the data. Numbers that a case does not need
+are 0; a field that is no number stands for the largest of 32 bits. After each case comes its note as a case of the kind #, whose data are printed as they
+stand.
 """
 import pathlib
-from sheets import large
 
 NUMBERS = 5
+COLUMNS = 9
+LARGEST = 2 ** 32 - 1
 
 # The test programs read no more bytes.
 MOST_INPUT = 256000
@@ -18,8 +20,13 @@ def case(kind, answer, note, numbers=(), data=b""):
     CASES.append((kind, numbers, data, answer, note))
 
 
+def number(n):
+    assert n < 10 ** COLUMNS or n == LARGEST, "no field holds it"
+    return b"-" * COLUMNS if n == LARGEST else b"%*d" % (COLUMNS, n)
+
+
 def laid_out(kind, numbers=(), data=b""):
-    return kind + b"".join(large(n) for n in (*numbers, *[0] * NUMBERS)[:NUMBERS]) + large(len(data)) + data
+    return kind + b"".join(number(n) for n in (*numbers, *[0] * NUMBERS)[:NUMBERS]) + number(len(data)) + data
 
 
 def store(program):

@@ -17,7 +17,7 @@ from piece to piece as the program `settle` does. What it reads of its files is 
 """
 import settle_model
 import case_files
-from case_files import CASES, store
+from case_files import LARGEST, CASES, store
 from sheets import *
 
 NET = None  # the model of the sheet in force; none under a number of the reader
@@ -168,7 +168,7 @@ lent_piece("just enough room: what comes after the text stays", ["   1" + X[1]],
 lent_piece("more room", ["3334" + X[1], "3335" + STAYS[1]], PIECE_ROOM + 4, 3334, X[0] + STAYS[0])
 lent_piece("a piece that begins with job 9,999: the next one stays unread", ["9999" + STAYS[1]], PIECE_ROOM, 9999, STAYS[0] + X[0])
 lent_piece("a piece that begins with job 10,000: nothing is read", [], PIECE_ROOM, 10000, STAYS[0])
-lent_piece("a piece that begins with the largest number of 32 bits", [], PIECE_ROOM, 4294967295, STAYS[0])
+lent_piece("a piece that begins with the largest number of 32 bits", [], PIECE_ROOM, LARGEST, STAYS[0])
 
 # h = 0: four fields and two blanks. h = 12: the longest lines, which just fill a piece's room.
 

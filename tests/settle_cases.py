@@ -17,7 +17,7 @@ sheet or jobs. States are written here as in the papers, the first letter or key
 no states. The two bench examples on the NOR gate's inner vertex ask for an excitation, and stand in verdict_cases.py.
 """
 import settle_model
-from case_files import case, store
+from case_files import LARGEST, case, store
 from sheets import *
 
 UNTOUCHED = settle_model.UNTOUCHED
@@ -318,8 +318,6 @@ settles(0, 0, 0, "9", 0, "9", 0, "the one state is stable")
 refuses(42, 0, 1, 0, "2^0 is no input state", (1, 1))
 
 # The rows of settling in order: 41, 31, 42, 43, 45, 44. Each is tried with all later ones wrong too.
-
-LARGEST = 4294967295
 
 net("no bytes", b"", 11, 0)
 refuses(41, LARGEST, LARGEST, LARGEST, "41 first", (0, 0))

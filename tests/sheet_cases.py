@@ -4,10 +4,10 @@
 Each case has a note: the row or sentence of document 01 that its answer follows from. Running this file writes the input and the expected
 output of the test program `sheet_cases`. The expected numbers are worked out here by hand, never taken from a run.
 
-The kinds of cases: S a sheet, L one line of a sheet, whose number the case has, J a job line; s, l and j the same in six columns a field, for the code
-takes any width; F a number, and in how many columns of a longer buffer it is written. The program prints an answer and the note on a line for each.
+The kinds of cases: S a sheet, L one line of a sheet, whose number the case has, J a job line; s, l and j the same in as many columns a field as the case
+says, for the code takes any from 1 to 9; F a number, and in how many columns of a longer buffer it is written. The program prints an answer and the note on a line for each.
 """
-from case_files import case, store
+from case_files import LARGEST, case, store
 from sheets import field, line
 
 
@@ -67,42 +67,42 @@ def job(answer, note, data):
     case(b"J", b"".join(field(n) for n in answer), note, data=data)
 
 
-# The wider fields, and the buffer that a field is written to.
-WIDE = 6
+# The buffer that a field is written to.
 BUFFER = 12
 
 
-def wide_line(*numbers):
-    return b"".join(b"%*d" % (WIDE, n) for n in numbers) + b"\n"
+def line_in(columns, *numbers):
+    return b"".join(b"%*d" % (columns, n) for n in numbers) + b"\n"
 
 
-def wide(*lines):
-    return b"".join(l if isinstance(l, bytes) else wide_line(*l) for l in lines)
+def sheet_in(columns, *lines):
+    return b"".join(l if isinstance(l, bytes) else line_in(columns, *l) for l in lines)
 
 
-def wide_worked(**changes):
+def worked_in(columns, **changes):
     lines = list(WORKED)
     for name, new in changes.items():
         lines[int(name[1:]) - 1] = new
-    return wide(*lines)
+    return sheet_in(columns, *lines)
 
 
-def wide_read(number, place, note, data):
-    case(b"s", field(number) + field(place) + field(1 if number == 0 else 0), note, data=data)
+def read_in(columns, number, place, note, data):
+    case(b"s", field(number) + field(place) + field(1 if number == 0 else 0), "%d columns: %s" % (columns, note), (columns,), data)
 
 
-def wide_part(part, note, n, data):
-    case(b"l", field(len(part)) + part, note, (n,), data)
+def one_line_in(columns, part, note, n, data):
+    case(b"l", field(len(part)) + part, "%d columns: %s" % (columns, note), (columns, n), data)
+
+
+def job_in(columns, answer, note, data):
+    numbers = b"".join(b"%*d" % (columns, n) + b"?" * (BUFFER - columns) for n in answer)
+    case(b"j", numbers or field(46), "%d columns: %s" % (columns, note), (columns,), data)
 
 
 def written(columns, n, text, note):
     """The text stands in the first columns of the buffer, and the bytes beyond stay as they were."""
     assert len(text) == columns
     case(b"F", text + b"?" * (BUFFER - columns), note, (n, columns))
-
-
-def wide_job(answer, note, data):
-    case(b"j", b"".join(b"%*d" % (WIDE, n) + b"?" * (BUFFER - WIDE) for n in answer) if answer else field(46), note, data=data)
 
 
 read(0, 0, "the worked example is accepted", worked())
@@ -202,42 +202,48 @@ job((46, 0, 0, 0), "row 46: last field 1", line(4, 0, 1, 1, 1))
 job((46, 0, 0, 0), "row 46: a leading zero", b"   4  00   1   1   0\n")
 job((46, 0, 0, 0), "row 46: without byte 10", b"   4   0   1   1   0 ")
 
-# In six columns a line has 31 bytes; rows and places are those of four columns.
-wide_read(0, 0, "six columns: the worked example", wide_worked())
-wide_read(11, 0, "six columns: row 11: length 0", b"")
-wide_read(11, 0, "six columns: row 11: the worked example in four columns is no whole number of lines of 31 bytes", worked())
-read(11, 0, "row 11: the worked example in six columns is no whole number of lines of 21 bytes", wide_worked())
-wide_read(12, 1, "six columns: row 12: 31 lines of four columns are 21 lines of 31 bytes, and the first is not five fields", sheet(*[HEADER] * 31))
-wide_read(0, 0, "six columns: 289 lines are the limit, 96 vertices and 192 edges",
-          wide((1, 96, 192, 0, 1), *[(2, v + 1, 0, 0, 0) for v in range(96)], *[(3, 1, 2, 0, 0)] * 192))
-wide_read(11, 0, "six columns: row 11: 290 lines",
-          wide((1, 96, 193, 0, 1), *[(2, v + 1, 0, 0, 0) for v in range(96)], *[(3, 1, 2, 0, 0)] * 193))
-wide_read(12, 3, "six columns: row 12: a leading zero", wide_worked(l3=b"     2     2     0000001     0\n"))
-wide_read(12, 3, "six columns: row 12: without byte 10", wide_worked(l3=wide_line(2, 2, 0, 1, 0)[:-1] + b" "))
-wide_read(13, 1, "six columns: row 13, and not 12: 999,999 vertices", wide_worked(l1=(1, 999999, 4, 1, 1)))
-wide_read(13, 1, "six columns: row 13: 65,540 vertices, which are 4 in 16 bits", wide_worked(l1=(1, 65540, 4, 1, 1)))
-wide_read(13, 1, "six columns: row 13: edition 65,537", wide_worked(l1=(1, 4, 4, 1, 65537)))
-wide_read(14, 0, "six columns: row 14: one line short", wide(*WORKED[:-1]))
-wide_read(15, 3, "six columns: row 15, and not 12: label 65,537, which is 1 in 16 bits", wide_worked(l3=(2, 2, 0, 65537, 0)))
-wide_read(15, 3, "six columns: row 15: vertex number 65,538", wide_worked(l3=(2, 65538, 0, 1, 0)))
-wide_read(15, 5, "six columns: row 15: role 65,537", wide_worked(l5=(2, 4, 65537, 0, 0)))
-wide_read(16, 6, "six columns: row 16, and not 12: symbol 65,547, which is 11 in 16 bits", wide_worked(l6=(3, 2, 3, 1, 65547)))
-wide_read(16, 6, "six columns: row 16: end 65,538", wide_worked(l6=(3, 65538, 3, 1, 11)))
-wide_read(16, 6, "six columns: row 16: form 65,537", wide_worked(l6=(3, 2, 3, 65537, 11)))
-wide_read(21, 8, "six columns: row 21", wide_worked(l8=(3, 3, 4, 3, 11)))
+# Other widths than the one in force: rows and places are those of four columns. In six columns a line has 31 bytes.
+read_in(6, 0, 0, "the worked example", worked_in(6))
+read_in(3, 0, 0, "the worked example in as few columns as hold its symbols", worked_in(3))
+read_in(9, 0, 0, "the worked example in the widest fields", worked_in(9))
+read_in(1, 0, 0, "one vertex needs no more", b"11001\n21000\n")
+read_in(6, 11, 0, "row 11: length 0", b"")
+read_in(6, 11, 0, "row 11: the worked example in four columns is no whole number of lines of 31 bytes", worked())
+read(11, 0, "row 11: the worked example in six columns is no whole number of lines of 21 bytes", worked_in(6))
+read_in(6, 12, 1, "row 12: 31 lines of four columns are 21 lines of 31 bytes, and the first is not five fields", sheet(*[HEADER] * 31))
+MOST = [(2, v + 1, 0, 0, 0) for v in range(96)] + [(3, 1, 2, 0, 0)] * 192
+read_in(6, 0, 0, "289 lines are the limit, 96 vertices and 192 edges", sheet_in(6, (1, 96, 192, 0, 1), *MOST))
+read_in(6, 11, 0, "row 11: 290 lines", sheet_in(6, (1, 96, 193, 0, 1), *MOST, (3, 1, 2, 0, 0)))
+read_in(6, 12, 3, "row 12: a leading zero", worked_in(6, l3=b"     2     2     0000001     0\n"))
+read_in(6, 12, 3, "row 12: without byte 10", worked_in(6, l3=line_in(6, 2, 2, 0, 1, 0)[:-1] + b" "))
+read_in(6, 13, 1, "row 13, and not 12: 999,999 vertices", worked_in(6, l1=(1, 999999, 4, 1, 1)))
+read_in(9, 13, 1, "row 13, and not 12: 999,999,999 letters", worked_in(9, l1=(1, 4, 4, 999999999, 1)))
+read_in(6, 13, 1, "row 13: 65,540 vertices, which are 4 in 16 bits", worked_in(6, l1=(1, 65540, 4, 1, 1)))
+read_in(6, 13, 1, "row 13: edition 65,537", worked_in(6, l1=(1, 4, 4, 1, 65537)))
+read_in(6, 14, 0, "row 14: one line short", sheet_in(6, *WORKED[:-1]))
+read_in(6, 15, 3, "row 15, and not 12: label 65,537, which is 1 in 16 bits", worked_in(6, l3=(2, 2, 0, 65537, 0)))
+read_in(6, 15, 3, "row 15: vertex number 65,538", worked_in(6, l3=(2, 65538, 0, 1, 0)))
+read_in(6, 15, 5, "row 15: role 65,537", worked_in(6, l5=(2, 4, 65537, 0, 0)))
+read_in(6, 16, 6, "row 16, and not 12: symbol 65,547, which is 11 in 16 bits", worked_in(6, l6=(3, 2, 3, 1, 65547)))
+read_in(6, 16, 6, "row 16: end 65,538", worked_in(6, l6=(3, 65538, 3, 1, 11)))
+read_in(6, 16, 6, "row 16: form 65,537", worked_in(6, l6=(3, 2, 3, 65537, 11)))
+read_in(6, 21, 8, "row 21", worked_in(6, l8=(3, 3, 4, 3, 11)))
 
-wide_part(wide_line(2, 1, 0, 0, 0), "six columns: line 2 of nine", 2, wide_worked())
-wide_part(wide_line(3, 4, 1, 0, 103), "six columns: the last line", 9, wide_worked())
-wide_part(b"", "six columns: no line 0", 0, wide_worked())
-wide_part(b"", "six columns: no line 10", 10, wide_worked())
-wide_part(b"", "six columns: a line of 30 bytes is not full", 1, wide_line(*HEADER)[:30])
-wide_part(b"", "six columns: no line of the largest number", 2 ** 32 - 1, wide_worked())
+one_line_in(6, line_in(6, 2, 1, 0, 0, 0), "line 2 of nine", 2, worked_in(6))
+one_line_in(6, line_in(6, 3, 4, 1, 0, 103), "the last line", 9, worked_in(6))
+one_line_in(1, b"21000\n", "line 2 of two", 2, b"11001\n21000\n")
+one_line_in(6, b"", "no line 0", 0, worked_in(6))
+one_line_in(6, b"", "no line 10", 10, worked_in(6))
+one_line_in(6, b"", "a line of 30 bytes is not full", 1, line_in(6, *HEADER)[:30])
+one_line_in(6, b"", "no line of the largest number", LARGEST, worked_in(6))
 
-wide_job((3, 12, 65535), "six columns: 4, A, B, q, 0", wide_line(4, 3, 12, 65535, 0))
-wide_job((999999, 999999, 999999), "any numbers of six columns", wide_line(4, 999999, 999999, 999999, 0))
-wide_job(None, "row 46: four columns where six are asked for", line(4, 0, 1, 1, 0))
-job((46, 0, 0, 0), "row 46: six columns where four are asked for", wide_line(4, 0, 1, 1, 0))
-wide_job(None, "row 46: kind 65,540, which is 4 in 16 bits", wide_line(65540, 0, 1, 1, 0))
+job_in(6, (3, 12, 65535), "4, A, B, q, 0", line_in(6, 4, 3, 12, 65535, 0))
+job_in(6, (999999, 999999, 999999), "any numbers", line_in(6, 4, 999999, 999999, 999999, 0))
+job_in(9, (999999999, 0, 999999999), "any numbers", line_in(9, 4, 999999999, 0, 999999999, 0))
+job_in(1, (9, 0, 1), "any numbers", b"49010\n")
+job_in(6, (), "row 46: four columns where six are asked for", line(4, 0, 1, 1, 0))
+job((46, 0, 0, 0), "row 46: six columns where four are asked for", line_in(6, 4, 0, 1, 1, 0))
+job_in(6, (), "row 46: kind 65,540, which is 4 in 16 bits", line_in(6, 65540, 0, 1, 1, 0))
 
 # A field: blanks, then the number without leading zeros; of a number of more digits the last ones.
 written(0, 7, b"", "no column: nothing is written")
@@ -248,6 +254,6 @@ written(4, 9999, b"9999", "a number that fills its field")
 written(4, 65535, b"5535", "a number of more digits: the last four")
 written(4, 10000, b"0000", "a number of more digits: the last four, zeros too")
 written(6, 65535, b" 65535", "six columns")
-written(12, 2 ** 32 - 1, b"  4294967295", "twelve columns, the whole buffer")
+written(12, LARGEST, b"  4294967295", "twelve columns, the whole buffer")
 
 store("sheet_cases")

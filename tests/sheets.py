@@ -12,10 +12,6 @@ def field(n):
     return b"%4d" % n
 
 
-def large(n):
-    return field(n // 10 ** 8) + field(n // 10 ** 4 % 10 ** 4) + field(n % 10 ** 4)
-
-
 def line(*numbers):
     return b"".join(field(n) for n in numbers) + b"\n"
 

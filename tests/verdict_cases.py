@@ -15,7 +15,7 @@ The kinds of cases, and what the program prints for each before the note:
 The numbers of a case are the input state, the key state and the vertex; its data are a sheet. The report's networks stand in sheets.py; the notes say which sentence of the report a sheet is made to satisfy.
 """
 import settle_model
-from case_files import case, store
+from case_files import LARGEST, case, store
 from sheets import *
 
 NET = None  # the model of the sheet in force; none under a refusal
@@ -417,7 +417,7 @@ net("no bytes", b"", 11, 0)
 verdict(41, 0, "row 41: a refused sheet gives the empty record, which no accepted sheet gives")
 key_nodes(41, 0, "row 41, and counts are 0 under a number")
 excitation(41, 0, "row 41", 0, 0, 1)
-excitation(41, 0, "41 before 42, 43 and 48", 4294967295, 4294967295, 4294967295)
+excitation(41, 0, "41 before 42, 43 and 48", LARGEST, LARGEST, LARGEST)
 net("a sheet with a form 3 edge that has no partner", sheet(1, [ZERO, ONE, OUTPUT, STORAGE], [(2, 3, P_PRIMED, letter(1))]), 21, 6)
 verdict(41, 0, "row 41: refused by the graph rows, the record is empty too")
 key_nodes(41, 0, "row 41")
@@ -428,11 +428,11 @@ excitation(0, 0, "input 3 and key 3 are the last ones", 3, 3, 4)
 excitation(42, 0, "row 42: 2^L", 4, 0, 3)
 excitation(42, 0, "row 42: 256, whose low byte is an input state", 256, 0, 3)
 excitation(42, 0, "row 42: 65536, whose low half is an input state", 65536, 0, 3)
-excitation(42, 0, "row 42: the largest number of 32 bits", 4294967295, 0, 3)
+excitation(42, 0, "row 42: the largest number of 32 bits", LARGEST, 0, 3)
 excitation(43, 0, "row 43: 2^h", 0, 4, 3)
 excitation(43, 0, "row 43: 256, whose low byte is a key state", 0, 256, 3)
 excitation(43, 0, "row 43: 65536, whose low half is a key state", 0, 65536, 3)
-excitation(43, 0, "row 43: the largest number of 32 bits", 0, 4294967295, 3)
+excitation(43, 0, "row 43: the largest number of 32 bits", 0, LARGEST, 3)
 excitation(48, 0, "row 48: vertex 0", 0, 0, 0)
 excitation(48, 0, "row 48: an input vertex", 0, 0, 1)
 excitation(48, 0, "row 48: the other input vertex", 0, 0, 2)
@@ -440,7 +440,7 @@ excitation(0, 1, "vertex V is storage", 0, 0, 6)
 excitation(48, 0, "row 48: vertex V + 1", 0, 0, 7)
 excitation(48, 0, "row 48: 256 + 3, whose low byte is a storage vertex", 0, 0, 259)
 excitation(48, 0, "row 48: 65536 + 3, whose low half is a storage vertex", 0, 0, 65539)
-excitation(48, 0, "row 48: the largest number of 32 bits", 0, 0, 4294967295)
+excitation(48, 0, "row 48: the largest number of 32 bits", 0, 0, LARGEST)
 excitation(42, 0, "42 before 43 and 48", 4, 4, 0)
 excitation(42, 0, "42 before 48", 4, 0, 7)
 excitation(43, 0, "43 before 48", 0, 4, 0)

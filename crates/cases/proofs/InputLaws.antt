@@ -1,5 +1,4 @@
--- A part is there or not, and a field at a place reads as a number or not; beyond the input all numbers are 0. The next case
--- stands later, and no later than the end.
+-- A part is there or not, and a field at a place reads as a number or not. The next case stands later, and no later than the end.
 use Prim.Native.Nat.{ℕ, _+_, _-_, _*_, _≤_, _<_}
 use native.Mathlib.Omega.{arith}
 use mathlib.Core.Path.{_≡_}
@@ -10,11 +9,10 @@ use lib.ListN.{length, take, drop}
 use borrow.Author.Tests.{le-leb, lt-leb, le-ltb, ltb-true}
 use Rattle.ternary.proofs.Tests.{cond-by}
 use Rattle.sheet.specs.declared.Field.the-variants.{Number, Refused}
-use Rattle.sheet.specs.Limits.{fieldWidth}
+use Rattle.sheet.specs.Limits.{mostColumns}
 use Rattle.sheet.specs.Field.{readField, fieldAnswer}
-use Rattle.sheet.proofs.FieldSteps.{wrong-width}
 use Rattle.sheet.proofs.LineSteps.{number-of, refused-of, part}
-use Rattle.cases.specs.Input.{partOf, numberAt, threeFields, dataPlace, dataSize, nextOf}
+use Rattle.cases.specs.Input.{partOf, largest, numberAt, dataPlace, dataSize, nextOf}
 
 module _ (b : List ℕ) (at n : ℕ) where
   pub part-missing : length b < at + n → [] ≡ partOf b at n
@@ -27,27 +25,18 @@ module _ (b : List ℕ) (at n : ℕ) where
 
 -- the field at a place, once it is read
 abbrev field : List ℕ → ℕ → Option ℕ
-field b at = readField fieldWidth (partOf b at fieldWidth)
+field b at = readField mostColumns (partOf b at mostColumns)
 
 module _ (b : List ℕ) (at : ℕ) where
   pub number-there : (n : ℕ) → fieldAnswer (field b at) ≡ Number n → n ≡ numberAt b at
   unfolding numberAt
   number-there n e = rw (number-of (field b at) n e)
 
-  pub number-missing : fieldAnswer (field b at) ≡ Refused → 0 ≡ numberAt b at
+  pub number-missing : fieldAnswer (field b at) ≡ Refused → largest ≡ numberAt b at
   unfolding numberAt
   number-missing e = rw (refused-of (field b at) e)
 
-  number-beyond : length b < at + fieldWidth → numberAt b at ≡ 0
-  unfolding numberAt
-  number-beyond h = rw (← part-missing b at fieldWidth h, wrong-width fieldWidth [] (λ e. omega (arith, e)))
-
 module _ (b : List ℕ) (at : ℕ) where
-  pub three-beyond : length b < at → 0 ≡ threeFields b at
-  unfolding threeFields
-  three-beyond h =
-      rw (number-beyond b at (omega arith), number-beyond b (at + fieldWidth) (omega arith), number-beyond b (at + 2 * fieldWidth) (omega arith))
-
   -- where the next case would stand, were there no end
   abbrev after : ℕ
   after = at + dataPlace + dataSize b at

@@ -1,52 +1,40 @@
 -- What the test programs read off their input.
-use Prim.Native.Nat.{ℕ, _+_, _*_, _^_}
+use Prim.Native.Nat.{ℕ, _+_, _*_}
 use mathlib.Core.Bool.{cond}
 use mathlib.Core.List.{List, []}
 use mathlib.Core.Option.{Option, none, some}
 use lib.Dec.{ltb, leb}
 use lib.ListN.{length, take, drop}
-use Rattle.sheet.specs.Limits.{fieldWidth}
+use Rattle.sheet.specs.Limits.{mostColumns}
 use Rattle.sheet.specs.Field.{readField}
 
 -- n bytes from a place on; none where they are not all there
 unfoldable pub partOf : List ℕ → ℕ → ℕ → List ℕ
 partOf b at n = cond (leb (at + n) (length b)) (take n (drop at b)) []
 
--- a number that may be missing; 0 where it is
-abbrev pub numberOf : Option ℕ → ℕ
-numberOf none = 0
-numberOf (some n) = n
-
--- the number whose field stands at a place; 0 where none does
-unfoldable pub numberAt : List ℕ → ℕ → ℕ
-numberAt b at = numberOf (readField fieldWidth (partOf b at fieldWidth))
-
--- the numbers that a field can hold are those below this
-abbrev pub fieldBase : ℕ
-fieldBase = 10 ^ fieldWidth
-
--- the number in three fields, each the next digits of it
-unfoldable pub threeFields : List ℕ → ℕ → ℕ
-threeFields b at = (numberAt b at * fieldBase + numberAt b (at + fieldWidth)) * fieldBase + numberAt b (at + 2 * fieldWidth)
-
 -- the largest number of 32 bits
 abbrev pub largest : ℕ
 largest = 4294967295
 
--- the number in three fields; the largest of 32 bits where it is above that
-unfoldable pub largeAt : List ℕ → ℕ → ℕ
-largeAt b at = cond (ltb (threeFields b at) largest) (threeFields b at) largest
+-- a number that may be missing; the largest of 32 bits, which no field holds, where it is
+abbrev pub numberOf : Option ℕ → ℕ
+numberOf none = largest
+numberOf (some n) = n
+
+-- the number whose field stands at a place
+unfoldable pub numberAt : List ℕ → ℕ → ℕ
+numberAt b at = numberOf (readField mostColumns (partOf b at mostColumns))
 
 -- where the parts of a case stand, counted from its kind, which is its first byte: five numbers, the size of its data, its data
 abbrev pub dataSizePlace : ℕ
-dataSizePlace = 1 + 5 * (3 * fieldWidth)
+dataSizePlace = 1 + 5 * mostColumns
 
 abbrev pub dataPlace : ℕ
-dataPlace = dataSizePlace + 3 * fieldWidth
+dataPlace = dataSizePlace + mostColumns
 
 -- the size of the data of the case at a place
 abbrev pub dataSize : List ℕ → ℕ → ℕ
-dataSize b at = largeAt b (at + dataSizePlace)
+dataSize b at = numberAt b (at + dataSizePlace)
 
 unfoldable pub dataOf : List ℕ → ℕ → List ℕ
 dataOf b at = partOf b (at + dataPlace) (dataSize b at)

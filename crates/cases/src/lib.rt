@@ -1,14 +1,11 @@
-//! How a case of the test programs is laid out in their input. Each number has three fields. A case may bring the sheet for the cases after it, or a note
+//! How a case of the test programs is laid out in their input. Each number has a field of the widest kind. A case may bring the sheet for the cases after it, or a note
 //! that is printed as it stands. Numbers of their answers have a field each.
 
 ghost use mathlib.Core.Path.{_≡_};
 ghost use Rattle.sheet.specs.Line.{writeNumber};
-ghost use Rattle.cases.specs.Input.{partOf, numberAt, threeFields, largeAt, dataOf, nextOf};
+ghost use Rattle.cases.specs.Input.{partOf, numberAt, dataOf, nextOf};
 use sheet::Field;
 use sheet::Sheet;
-
-// A field holds a number below this.
-const FIELD_BASE: u64 = 10000;
 
 pub struct Input;
 
@@ -21,21 +18,19 @@ impl Input {
 pub struct Case;
 
 impl Case {
-    const NUMBER_WIDTH: usize = 3 * Sheet::FIELD_WIDTH;
-
     pub const FIRST: usize = 1;
 
-    pub const SECOND: usize = Case::FIRST + Case::NUMBER_WIDTH;
+    pub const SECOND: usize = Case::FIRST + Sheet::MOST_COLUMNS;
 
-    pub const THIRD: usize = Case::SECOND + Case::NUMBER_WIDTH;
+    pub const THIRD: usize = Case::SECOND + Sheet::MOST_COLUMNS;
 
-    pub const FOURTH: usize = Case::THIRD + Case::NUMBER_WIDTH;
+    pub const FOURTH: usize = Case::THIRD + Sheet::MOST_COLUMNS;
 
-    pub const FIFTH: usize = Case::FOURTH + Case::NUMBER_WIDTH;
+    pub const FIFTH: usize = Case::FOURTH + Sheet::MOST_COLUMNS;
 
-    const DATA_SIZE: usize = Case::FIFTH + Case::NUMBER_WIDTH;
+    const DATA_SIZE: usize = Case::FIFTH + Sheet::MOST_COLUMNS;
 
-    const DATA: usize = Case::DATA_SIZE + Case::NUMBER_WIDTH;
+    const DATA: usize = Case::DATA_SIZE + Sheet::MOST_COLUMNS;
 }
 
 // Some bytes of the input; none where they are not all there.
@@ -53,38 +48,14 @@ fn part(input: &[u8], at: usize, n: usize) -> &[u8]
     &input[at..end]
 }
 
-// The number whose field stands at a place of the input; 0 where none does.
-fn number_at(input: &[u8], at: usize) -> u32
+// The number whose field stands at a place of the input; the largest of 32 bits, which no field holds, where none does.
+pub fn number_at(input: &[u8], at: usize) -> u32
     ensures { λ r. ⌜ r ≡ numberAt (now (input .entry)) at ⌝ }
 {
-    match fields::read_field(part(input, at, Sheet::FIELD_WIDTH), Sheet::FIELD_WIDTH) {
+    match fields::read_field(part(input, at, Sheet::MOST_COLUMNS), Sheet::MOST_COLUMNS) {
         Field::Number(n) => n,
-        Field::Refused => 0,
+        Field::Refused => u32::MAX,
     }
-}
-
-// The number in three fields, each the next digits of it.
-fn three_fields(input: &[u8], at: usize) -> u64
-    ensures { λ r. ⌜ r ≡ threeFields (now (input .entry)) at ⌝ }
-{
-    if input.len() < at {
-        return 0;
-    }
-    let first = number_at(input, at) as u64;
-    let second = number_at(input, at + Sheet::FIELD_WIDTH) as u64;
-    let third = number_at(input, at + 2 * Sheet::FIELD_WIDTH) as u64;
-    (first * FIELD_BASE + second) * FIELD_BASE + third
-}
-
-// The number in three fields; the largest of 32 bits where it is above that.
-pub fn large_at(input: &[u8], at: usize) -> u32
-    ensures { λ r. ⌜ r ≡ largeAt (now (input .entry)) at ⌝ }
-{
-    let n = three_fields(input, at);
-    if n < u32::MAX as u64 {
-        return n as u32;
-    }
-    u32::MAX
 }
 
 // The data of the case at a place.
@@ -94,7 +65,7 @@ pub fn data_of(input: &[u8], at: usize) -> &[u8]
     if input.len() < at {
         return &input[0..0];
     }
-    let size = large_at(input, at + Case::DATA_SIZE) as usize;
+    let size = number_at(input, at + Case::DATA_SIZE) as usize;
     part(input, at + Case::DATA, size)
 }
 
@@ -106,7 +77,7 @@ pub fn next_case(input: &[u8], at: usize) -> usize
     if end < at {
         return end;
     }
-    let size = large_at(input, at + Case::DATA_SIZE) as usize;
+    let size = number_at(input, at + Case::DATA_SIZE) as usize;
     let next = at + Case::DATA + size;
     if next < end {
         return next;

@@ -9,8 +9,8 @@ ghost use Rattle.output.specs.Program.{Onward};
 use cases::Case;
 use cases::Input;
 use cases::data_of;
-use cases::large_at;
 use cases::next_case;
+use cases::number_at;
 use libc::STDIN_FILENO;
 use libc::STDOUT_FILENO;
 use output::Next;
@@ -153,7 +153,7 @@ fn repeat<'a, 'b>(lines: &'a [u8], jobs: &'b mut [u8]) {
 fn size_at(cases: &[u8], at: usize, buffer: &[u8]) -> usize
     ensures { λ r. ⌜ Counts r (now (buffer .entry)) ⌝ }
 {
-    io::count(large_at(cases, at) as isize, buffer)
+    io::count(number_at(cases, at) as isize, buffer)
 }
 
 // The pieces of as many bytes of jobs as the case at a place says, which repeat its data.
@@ -217,7 +217,7 @@ fn lend_piece<'a, 'b>(sheet: &'a [u8], first: u32, lines: &'a [u8], out: &'b mut
 fn print_in_buffer<'a>(cases: &'a [u8], at: usize, sheet: &'a [u8])
     requires { ⌜ at < length (now cases) ⌝ }
 {
-    let first = large_at(cases, at + Case::SECOND);
+    let first = number_at(cases, at + Case::SECOND);
     let mut out = text_buffer();
     let size = size_at(cases, at + Case::FIRST, &out);
     if cases[at] == b'O' {

@@ -8,8 +8,8 @@ ghost use Rattle.io.specs.Counts.{Counts};
 use cases::Case;
 use cases::Input;
 use cases::data_of;
-use cases::large_at;
 use cases::next_case;
+use cases::number_at;
 use cases::number_text;
 use libc::STDIN_FILENO;
 use libc::STDOUT_FILENO;
@@ -122,16 +122,16 @@ fn print_batch(net: Net, jobs: &[u8], results: &mut [u8], answers: &mut [u8]) {
 fn size_at(cases: &[u8], at: usize, buffer: &[u8]) -> usize
     ensures { λ r. ⌜ Counts r (now (buffer .entry)) ⌝ }
 {
-    io::count(large_at(cases, at) as isize, buffer)
+    io::count(number_at(cases, at) as isize, buffer)
 }
 
 // The settling that the case at a place asks for.
 fn run_settling(cases: &[u8], at: usize, net: Net)
     requires { ⌜ at < length (now cases) ⌝ }
 {
-    let old = large_at(cases, at + Case::FIRST);
-    let new = large_at(cases, at + Case::SECOND);
-    let start = large_at(cases, at + Case::THIRD);
+    let old = number_at(cases, at + Case::FIRST);
+    let new = number_at(cases, at + Case::SECOND);
+    let start = number_at(cases, at + Case::THIRD);
     let mut r = signal_buffer();
     let mut t = signal_buffer();
     let r_size = size_at(cases, at + Case::FOURTH, &r);

@@ -51,6 +51,7 @@ widths =
     record {
       field = fieldWidth;
       fields = fieldCount;
+      columns = mostColumns;
       line = lineWidth;
       lines = mostLines;
       sheet = mostBytes;

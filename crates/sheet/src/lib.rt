@@ -16,6 +16,8 @@ impl Sheet {
     pub const FIELD_WIDTH: usize = 4;
 
     pub const FIELDS: usize = 5;
+    // The widest field that is read: 32 bits hold every number of nine digits.
+    pub const MOST_COLUMNS: usize = 9;
 
     pub const LINE_WIDTH: usize = Sheet::FIELD_WIDTH * Sheet::FIELDS + 1;
     // A header, and a line for each vertex and each edge.
@@ -151,6 +153,7 @@ pub enum JobLine {
 pub struct Widths {
     pub field: usize,
     pub fields: usize,
+    pub columns: usize,
     pub line: usize,
     pub lines: usize,
     pub sheet: usize,
@@ -166,6 +169,7 @@ pub fn widths_in_force() -> Widths
     Widths {
         field: Sheet::FIELD_WIDTH,
         fields: Sheet::FIELDS,
+        columns: Sheet::MOST_COLUMNS,
         line: Sheet::LINE_WIDTH,
         lines: Sheet::MOST_LINES,
         sheet: Sheet::MOST_BYTES,

@@ -1,23 +1,22 @@
-//! Runs the cases of standard input through the reader, the one-line call and the job line, each in the width in force and in a wider one, and through
-//! the writer of a field, and prints each answer beside the case's note. tests/sheet_cases.py tells the layout of a case and where each expected answer
+//! Runs the cases of standard input through the reader, the one-line call and the job line, each in the width in force and in others, and through the
+//! writer of a field, and prints each answer beside the case's note. tests/sheet_cases.py tells the layout of a case and where each expected answer
 //! comes from.
 
-ghost use Prim.Native.Nat.{_<_};
+ghost use Prim.Native.Nat.{_≤_, _<_};
 ghost use mathlib.Core.Path.{_≡_};
 ghost use lib.ListN.{length};
+ghost use Rattle.sheet.specs.Limits.{mostColumns};
 use cases::Case;
 use cases::Input;
 use cases::data_of;
-use cases::large_at;
 use cases::next_case;
+use cases::number_at;
 use cases::number_text;
 use libc::STDIN_FILENO;
 use libc::STDOUT_FILENO;
 use sheet::JobLine;
 use sheet::Reading;
-
-// Columns of a field in the wider sheets and job lines.
-const WIDE: usize = 6;
+use sheet::Sheet;
 
 // The buffer that a field is written to, and what it holds before.
 const FIELD_BUFFER: usize = 12;
@@ -97,16 +96,32 @@ fn print_job(bytes: &[u8]) {
     }
 }
 
-// A wide job line: its three numbers in a field of the buffer each, or 46.
-fn print_wide_job(bytes: &[u8]) {
-    match line_values::job_in(bytes, WIDE) {
+// A job line of another width: its three numbers in a field of the buffer each, or 46.
+fn print_job_in(bytes: &[u8], columns: usize)
+    requires { ⌜ (1 ≤ columns) × (columns ≤ mostColumns) ⌝ }
+{
+    match line_values::job_in(bytes, columns) {
         JobLine::Asked(old, new, start) => {
-            print_field(old as u64, WIDE);
-            print_field(new as u64, WIDE);
-            print_field(start as u64, WIDE);
+            print_field(old as u64, columns);
+            print_field(new as u64, columns);
+            print_field(start as u64, columns);
         }
         JobLine::Refused => print_column(46),
     }
+}
+
+// The columns that a case asks for, made such as are read.
+fn columns_at(cases: &[u8], at: usize) -> usize
+    ensures { λ r. ⌜ (1 ≤ r) × (r ≤ mostColumns) ⌝ }
+{
+    let columns = number_at(cases, at) as usize;
+    if columns == 0 {
+        return 1;
+    }
+    if Sheet::MOST_COLUMNS < columns {
+        return Sheet::MOST_COLUMNS;
+    }
+    columns
 }
 
 // A note, which ends the line of the case before it.
@@ -122,12 +137,12 @@ fn print_answer(cases: &[u8], at: usize)
     match cases[at] {
         b'#' => print_note(bytes),
         b'S' => print_reading(reader::read(bytes)),
-        b's' => print_reading(reader::read_in(bytes, WIDE)),
-        b'L' => print_line(bytes, large_at(cases, at + Case::FIRST) as usize),
-        b'l' => print_part(lines::line_in(bytes, WIDE, large_at(cases, at + Case::FIRST) as usize)),
+        b's' => print_reading(reader::read_in(bytes, columns_at(cases, at + Case::FIRST))),
+        b'L' => print_line(bytes, number_at(cases, at + Case::FIRST) as usize),
+        b'l' => print_part(lines::line_in(bytes, columns_at(cases, at + Case::FIRST), number_at(cases, at + Case::SECOND) as usize)),
         b'J' => print_job(bytes),
-        b'j' => print_wide_job(bytes),
-        _ => print_field(large_at(cases, at + Case::FIRST) as u64, large_at(cases, at + Case::SECOND) as usize),
+        b'j' => print_job_in(bytes, columns_at(cases, at + Case::FIRST)),
+        _ => print_field(number_at(cases, at + Case::FIRST) as u64, number_at(cases, at + Case::SECOND) as usize),
     }
 }
 

@@ -7,8 +7,8 @@ ghost use lib.ListN.{length};
 use cases::Case;
 use cases::Input;
 use cases::data_of;
-use cases::large_at;
 use cases::next_case;
+use cases::number_at;
 use cases::number_text;
 use libc::STDIN_FILENO;
 use libc::STDOUT_FILENO;
@@ -85,9 +85,9 @@ fn print_key_nodes(net: Net) {
 fn print_answer(cases: &[u8], at: usize, sheet: &[u8])
     requires { ⌜ at < length (now cases) ⌝ }
 {
-    let input = large_at(cases, at + Case::FIRST);
-    let key = large_at(cases, at + Case::SECOND);
-    let vertex = large_at(cases, at + Case::THIRD);
+    let input = number_at(cases, at + Case::FIRST);
+    let key = number_at(cases, at + Case::SECOND);
+    let vertex = number_at(cases, at + Case::THIRD);
     let reading = reader::read(sheet);
     let net = reading.net;
     match cases[at] {

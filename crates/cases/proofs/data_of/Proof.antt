@@ -19,11 +19,11 @@ returns : tie.Need-returns
 unfolding dataOf
 returns c = part-missing _ _ _ (omega arith)
 
-add-large-at : tie.Need-add-large-at
-add-large-at c = search needs
+add-number-at : tie.Need-add-number-at
+add-number-at c = search needs
 
-large-at-requires : tie.Need-large-at-requires
-large-at-requires c κs = search needs
+number-at-requires : tie.Need-number-at-requires
+number-at-requires c κs = search needs
 
 cast-size : tie.Need-cast-size
 cast-size c = search needs
@@ -36,7 +36,7 @@ part-requires c κs = search needs
 
 returns-2 : tie.Need-returns-2
 unfolding dataOf
-returns-2 c = rw (c .part .ensures, c .before .large-at .ensures)
+returns-2 c = rw (c .part .ensures, c .before .number-at .ensures)
 
 pub data-of-spec : {M : Type 1} → statement M
 data-of-spec =
@@ -46,8 +46,8 @@ data-of-spec =
     part-result-start
     part-result-end
     returns
-    add-large-at
-    large-at-requires
+    add-number-at
+    number-at-requires
     cast-size
     add-part
     part-requires

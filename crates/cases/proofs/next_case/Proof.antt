@@ -9,11 +9,11 @@ use Rattle.cases.proofs.next_case.Tie as tie
 returns : tie.Need-returns
 returns c = next-beyond _ _ (c .if1 .taken)
 
-add-large-at : tie.Need-add-large-at
-add-large-at c = search needs
+add-number-at : tie.Need-add-number-at
+add-number-at c = search needs
 
-large-at-requires : tie.Need-large-at-requires
-large-at-requires c κs = search needs
+number-at-requires : tie.Need-number-at-requires
+number-at-requires c κs = search needs
 
 cast-size : tie.Need-cast-size
 cast-size c = search needs
@@ -26,19 +26,19 @@ add-next-2 c = search needs
 
 returns-2 : tie.Need-returns-2
 unfolding nextOf
-returns-2 c = rw (← c .before .large-at .ensures, lt-ltb _ _ (c .if2 .taken))
+returns-2 c = rw (← c .before .number-at .ensures, lt-ltb _ _ (c .if2 .taken))
 
 returns-3 : tie.Need-returns-3
 unfolding nextOf
-returns-3 c = rw (← c .before .large-at .ensures, le-ltb _ _ (c .if2 .left))
+returns-3 c = rw (← c .before .number-at .ensures, le-ltb _ _ (c .if2 .left))
 
 pub next-case-spec : {M : Type 1} → statement M
 next-case-spec =
     tie.close
     (tie.spec
     returns
-    add-large-at
-    large-at-requires
+    add-number-at
+    number-at-requires
     cast-size
     add-next
     add-next-2
