@@ -1,5 +1,5 @@
 //! The sheet: its lines, what reading one answers, and the record that an accepted sheet gives.
-//! What a sheet means stands in specs/, the laws of it in proofs/. The functions over it are in the crates `lines`, `rules`,
+//! What a sheet means stands in specs/, the laws of it in proofs/. The functions over it are in the crates `fields`, `line_values`, `lines`, `rules`,
 //! `graph_rows`, `record` and `reader`.
 
 ghost use mathlib.Core.Path.{_≡_};
@@ -9,10 +9,11 @@ use net::Edge;
 use net::Net;
 use net::Vertex;
 
-// Lines of five fields, four columns each, ended by byte 10.
+// Lines of five fields and the byte that ends them.
 pub struct Sheet;
 
 impl Sheet {
+    // The width in force. What reads a line takes its columns, so that another width is another number.
     pub const FIELD_WIDTH: usize = 4;
 
     pub const FIELDS: usize = 5;
