@@ -27,58 +27,42 @@ pub record SmallLine (w : ℕ) (v : Line) : Type 0 where
   pub fourth : v .fourth < 10 ^ w
   pub fifth : v .fifth < 10 ^ w
 
--- a piece of w bytes at the front of what is left behind i pieces
-module _ (w : ℕ) (b : List ℕ) where
-  piece-front : (i : ℕ) (p rest : List ℕ) → length p ≡ w → drop (w * i) b ≡ p ++ rest → take w (drop (w * i) b) ≡ p
-  piece-front i p rest size e = rw e (take-at p rest w size)
+-- behind i fields a number's field stands at the front of what is left: it reads as the number, and the rest stands behind one field more
+module _ (w : ℕ) (b : List ℕ) (i n : ℕ) (rest : List ℕ) (small : n < 10 ^ w) (e : drop (w * i) b ≡ writeField w n ++ rest) where
+  field-read : fieldAt w b i ≡ some n
+  unfolding fieldAt
+  field-read = rw (e, take-at (writeField w n) rest w (length-field w n)) (read-write-field w n small)
 
-  piece-behind : (i : ℕ) (p rest : List ℕ) → length p ≡ w → drop (w * i) b ≡ p ++ rest → drop (w * suc i) b ≡ rest
-  piece-behind i p rest size e = rw (mul-suc, ← (drop-drop w (w * i) b), e) (drop-at p rest w size)
+  field-behind : drop (w * suc i) b ≡ rest
+  field-behind = rw (mul-suc, ← (drop-drop w (w * i) b), e) (drop-at (writeField w n) rest w (length-field w n))
 
 module _ (w : ℕ) (v : Line) where
-  abbrev after-4 : List ℕ
-  after-4 = lineEnd ∷ []
+  -- a written line, field by field from the left
+  abbrev fields : List ℕ
+  fields =
+      writeField w (v .kind)
+      ++ (writeField w (v .second) ++ (writeField w (v .third) ++ (writeField w (v .fourth) ++ (writeField w (v .fifth) ++ lineEnd ∷ []))))
 
-  abbrev after-3 : List ℕ
-  after-3 = writeField w (v .fifth) ++ after-4
-
-  abbrev after-2 : List ℕ
-  after-2 = writeField w (v .fourth) ++ after-3
-
-  abbrev after-1 : List ℕ
-  after-1 = writeField w (v .third) ++ after-2
-
-  abbrev after-0 : List ℕ
-  after-0 = writeField w (v .second) ++ after-1
-
-  -- its pieces, from the left
-  line-pieces : writeLine w v ≡ writeField w (v .kind) ++ after-0
+  line-fields : writeLine w v ≡ fields
   unfolding writeLine
-  line-pieces = simp append-assoc
+  line-fields = simp append-assoc
 
   pub read-write-line : SmallLine w v → readLine w (writeLine w v) ≡ some v
-  unfolding readLine fieldAt same fiveFields
+  unfolding readLine same fiveFields
   read-write-line s =
-      let b : List ℕ = writeField w (v .kind) ++ after-0 in
-      let d0 : drop (w * 0) b ≡ b = rw mul-zero in
-      let d1 = piece-behind w b 0 (writeField w (v .kind)) after-0 (length-field w _) d0 in
-      let d2 = piece-behind w b 1 (writeField w (v .second)) after-1 (length-field w _) d1 in
-      let d3 = piece-behind w b 2 (writeField w (v .third)) after-2 (length-field w _) d2 in
-      let d4 = piece-behind w b 3 (writeField w (v .fourth)) after-3 (length-field w _) d3 in
-      let d5 = piece-behind w b 4 (writeField w (v .fifth)) after-4 (length-field w _) d4 in
+      let d0 : drop (w * 0) fields ≡ fields = rw mul-zero in
+      let d1 = field-behind w fields 0 (v .kind) _ (s .kind) d0 in
+      let d2 = field-behind w fields 1 (v .second) _ (s .second) d1 in
+      let d3 = field-behind w fields 2 (v .third) _ (s .third) d2 in
+      let d4 = field-behind w fields 3 (v .fourth) _ (s .fourth) d3 in
       rw (
-        line-pieces,
-        d5,
-        piece-front w b 0 (writeField w (v .kind)) after-0 (length-field w _) d0,
-        piece-front w b 1 (writeField w (v .second)) after-1 (length-field w _) d1,
-        piece-front w b 2 (writeField w (v .third)) after-2 (length-field w _) d2,
-        piece-front w b 3 (writeField w (v .fourth)) after-3 (length-field w _) d3,
-        piece-front w b 4 (writeField w (v .fifth)) after-4 (length-field w _) d4,
-        read-write-field w (v .kind) (s .kind),
-        read-write-field w (v .second) (s .second),
-        read-write-field w (v .third) (s .third),
-        read-write-field w (v .fourth) (s .fourth),
-        read-write-field w (v .fifth) (s .fifth),
+        line-fields,
+        field-behind w fields 4 (v .fifth) _ (s .fifth) d4,
+        field-read w fields 0 (v .kind) _ (s .kind) d0,
+        field-read w fields 1 (v .second) _ (s .second) d1,
+        field-read w fields 2 (v .third) _ (s .third) d2,
+        field-read w fields 3 (v .fourth) _ (s .fourth) d3,
+        field-read w fields 4 (v .fifth) _ (s .fifth) d4,
       )
 
   pub length-line : length (writeLine w v) ≡ lineBytes w
