@@ -2,22 +2,22 @@
 use Prim.Native.Nat.{ℕ, _^_, _<_}
 use mathlib.Core.Path.{_≡_}
 use mathlib.Core.Bool.{cond, _&&_}
-use mathlib.Core.List.{List}
 use mathlib.Core.Option.{none, some}
 use lib.Dec.{eqb}
+use Rattle.ternary.specs.Lists.{Bytes}
 use Rattle.sheet.specs.declared.JobLine.{JobLine}
 use Rattle.sheet.specs.declared.JobLine.the-variants.{Asked, Refused}
-use Rattle.sheet.specs.Limits.{fieldWidth}
+use Rattle.sheet.specs.Limits.{Columns, fieldWidth}
 use Rattle.sheet.specs.Line.{line, writeLine, readLine}
 
 -- b is the line of this job
-pub record JobBytesIn (w : ℕ) (b : List ℕ) (A B q : ℕ) : Type 0 where
+pub record JobBytesIn (w : Columns) (b : Bytes) (A B q : ℕ) : Type 0 where
   pub written : writeLine w (line 4 A B q 0) ≡ b
   pub old : A < 10 ^ w
   pub new : B < 10 ^ w
   pub start : q < 10 ^ w
 
-unfoldable pub jobIn : ℕ → List ℕ → JobLine
+unfoldable pub jobIn : Columns → Bytes → JobLine
 jobIn w b =
     elim (readLine w b) [
       | none ↦ Refused
@@ -31,8 +31,8 @@ jobNumber Refused = 46
 
 -- ---- in the width in force
 
-abbrev pub JobBytes : List ℕ → ℕ → ℕ → ℕ → Type 0
+abbrev pub JobBytes : Bytes → ℕ → ℕ → ℕ → Type 0
 JobBytes b A B q = JobBytesIn fieldWidth b A B q
 
-abbrev pub jobOf : List ℕ → JobLine
+abbrev pub jobOf : Bytes → JobLine
 jobOf b = jobIn fieldWidth b

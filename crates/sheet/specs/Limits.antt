@@ -3,23 +3,27 @@ use Prim.Native.Nat.{ℕ, _+_, _*_}
 use Rattle.net.specs.Limits.{mostVertices, mostEdges}
 use Rattle.sheet.specs.declared.Widths.{Widths}
 
--- columns of a field, and fields of a line
-abbrev pub fieldWidth : ℕ
+-- how many columns a field has
+abbrev pub Columns : Type 0
+Columns = ℕ
+
+-- in force; and the fields of a line
+abbrev pub fieldWidth : Columns
 fieldWidth = 4
 
 abbrev pub fieldCount : ℕ
 fieldCount = 5
 
 -- the widest field that is read: the numbers of a line are held in 32 bits, and so each of 9 digits is, but not each of 10
-abbrev pub mostColumns : ℕ
+abbrev pub mostColumns : Columns
 mostColumns = 9
 
 -- the fewest columns that hold every number of a record: its symbols have three digits
-abbrev pub recordColumns : ℕ
+abbrev pub recordColumns : Columns
 recordColumns = 3
 
 -- the bytes of a line with w columns a field: the fields, and the byte that ends the line
-abbrev pub lineBytes : ℕ → ℕ
+abbrev pub lineBytes : Columns → ℕ
 lineBytes w = w * fieldCount + 1
 
 abbrev pub lineWidth : ℕ
@@ -30,7 +34,7 @@ abbrev pub mostLines : ℕ
 mostLines = 1 + mostVertices + mostEdges
 
 -- the most bytes of a sheet
-abbrev pub sheetBytes : ℕ → ℕ
+abbrev pub sheetBytes : Columns → ℕ
 sheetBytes w = lineBytes w * mostLines
 
 abbrev pub mostBytes : ℕ

@@ -5,12 +5,13 @@ use mathlib.Core.List.{List}
 use mathlib.Core.Option.{Option, none, some}
 use lib.Dec.{leb, ltb, eqb}
 use lib.ListN.{length, take, drop, set}
+use Rattle.ternary.specs.Lists.{Bytes}
 use Rattle.net.specs.declared.Vertex.{Vertex}
 use Rattle.net.specs.declared.Edge.{Edge}
 use Rattle.net.specs.declared.Net.{Net}
 use Rattle.sheet.specs.declared.Answer.{Answer}
 use Rattle.sheet.specs.declared.Reading.{Reading}
-use Rattle.sheet.specs.Limits.{fieldWidth, lineBytes, sheetBytes}
+use Rattle.sheet.specs.Limits.{Columns, fieldWidth, lineBytes, sheetBytes}
 use Rattle.sheet.specs.declared.Line.{Line}
 use Rattle.sheet.specs.Line.{readLine}
 use Rattle.sheet.specs.Rows.{answer, firstRow}
@@ -76,7 +77,7 @@ conclude N none = accepted N
 conclude N (some a) = refused a
 
 -- the lines that are left, from line j, with the record so far; reading stops at the first line refused
-unfoldable pub readLines : ℕ → ℕ → List ℕ → ℕ → Net → Reading
+unfoldable pub readLines : Columns → ℕ → Bytes → ℕ → Net → Reading
 readLines w zero rest j N = conclude N (firstRow (graphRows N))
 readLines w (suc left) rest j N =
     elim (stepLine (readLine w (take (lineBytes w) rest)) j N) [
@@ -85,11 +86,11 @@ readLines w (suc left) rest j N =
     ]
 
 -- not length 0, a multiple of a line, and not above the limit
-unfoldable pub sizeOk : ℕ → ℕ → Bool
+unfoldable pub sizeOk : Columns → ℕ → Bool
 sizeOk w n = leb 1 n && eqb (n % lineBytes w) 0 && leb n (sheetBytes w)
 
 -- from line 1
-unfoldable pub readHeader : ℕ → List ℕ → Option Line → Reading
+unfoldable pub readHeader : Columns → Bytes → Option Line → Reading
 readHeader w b none = refused (answer 12 1)
 readHeader w b (some h) =
     cond
@@ -100,9 +101,9 @@ readHeader w b (some h) =
     (refused (answer 14 0)))
     (refused (answer 13 1))
 
-unfoldable pub readIn : ℕ → List ℕ → Reading
+unfoldable pub readIn : Columns → Bytes → Reading
 readIn w b = cond (sizeOk w (length b)) (readHeader w b (readLine w (take (lineBytes w) b))) (refused (answer 11 0))
 
 -- in the width in force
-abbrev pub readSheet : List ℕ → Reading
+abbrev pub readSheet : Bytes → Reading
 readSheet b = readIn fieldWidth b

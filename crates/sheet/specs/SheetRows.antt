@@ -6,14 +6,14 @@ use mathlib.Core.List.{List, [], _∷_, _++_}
 use mathlib.Core.Option.{Option, none, some}
 use lib.Dec.{eqb, ltb}
 use lib.ListN.{length, take, drop}
-use Rattle.ternary.specs.Lists.{table}
+use Rattle.ternary.specs.Lists.{Bytes, table}
 use Rattle.net.specs.declared.Vertex.{Vertex}
 use Rattle.net.specs.declared.Edge.{Edge}
 use Rattle.net.specs.declared.Net.{Net}
 use Rattle.net.specs.Limits.{mostVertices, mostEdges}
 use Rattle.net.specs.Graph.{noVertex, noEdge}
 use Rattle.sheet.specs.declared.Line.{Line}
-use Rattle.sheet.specs.Limits.{fieldWidth, lineBytes}
+use Rattle.sheet.specs.Limits.{Columns, fieldWidth, lineBytes}
 use Rattle.sheet.specs.Line.{line, readLine}
 use Rattle.sheet.specs.Rows.{Row, row, when, whenAt}
 use Rattle.sheet.specs.Rules.{headerOk}
@@ -21,7 +21,7 @@ use Rattle.sheet.specs.Graph.{graphRows}
 use Rattle.sheet.specs.Reading.{vertexOf, edgeOf, vertexLineOk, edgeLineOk, sizeOk}
 
 -- line n of a sheet, the header being line 0: its five numbers, or none where it is not five fields
-unfoldable pub lineAt : ℕ → List ℕ → ℕ → Option Line
+unfoldable pub lineAt : Columns → Bytes → ℕ → Option Line
 lineAt w b n = readLine w (take (lineBytes w) (drop (lineBytes w * n) b))
 
 -- is it not five fields?
@@ -43,7 +43,7 @@ unfoldable pub inTurn : ℕ → ℕ → (ℕ → List Row) → List Row
 inTurn zero i f = []
 inTurn (suc m) i f = f i ++ inTurn m (suc i) f
 
-module _ (w : ℕ) (b : List ℕ) where
+module _ (w : Columns) (b : Bytes) where
   abbrev pub header : Line
   header = numbersOf (lineAt w b 0)
 
@@ -102,8 +102,8 @@ module _ (w : ℕ) (b : List ℕ) where
       ∷ (inTurn vertexCount 0 vertexRows ++ (inTurn edgeCount 0 edgeRows ++ graphRows netIn))
 
 -- in the width in force
-abbrev pub netOf : List ℕ → Net
+abbrev pub netOf : Bytes → Net
 netOf b = netIn fieldWidth b
 
-abbrev pub sheetRows : List ℕ → List Row
+abbrev pub sheetRows : Bytes → List Row
 sheetRows b = rowsIn fieldWidth b

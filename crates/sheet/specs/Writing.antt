@@ -2,11 +2,12 @@
 use Prim.Native.Nat.{ℕ, suc}
 use mathlib.Core.List.{List, [], _∷_, _++_}
 use lib.ListN.{take}
+use Rattle.ternary.specs.Lists.{Bytes}
 use Rattle.net.specs.declared.Vertex.{Vertex}
 use Rattle.net.specs.declared.Edge.{Edge}
 use Rattle.net.specs.declared.Net.{Net}
 use Rattle.sheet.specs.declared.Line.{Line}
-use Rattle.sheet.specs.Limits.{fieldWidth}
+use Rattle.sheet.specs.Limits.{Columns, fieldWidth}
 use Rattle.sheet.specs.Line.{line, writeLine}
 
 abbrev pub headerLine : Net → Line
@@ -19,20 +20,20 @@ vertexLine j x = line 2 (suc j) (x .role) (x .label) 0
 abbrev pub edgeLine : Edge → Line
 edgeLine e = line 3 (e .end1) (e .end2) (e .form) (e .symbol)
 
-unfoldable pub vertexLines : ℕ → ℕ → List Vertex → List ℕ
+unfoldable pub vertexLines : Columns → ℕ → List Vertex → Bytes
 vertexLines w j [] = []
 vertexLines w j (x ∷ xs) = writeLine w (vertexLine j x) ++ vertexLines w (suc j) xs
 
-unfoldable pub edgeLines : ℕ → List Edge → List ℕ
+unfoldable pub edgeLines : Columns → List Edge → Bytes
 edgeLines w [] = []
 edgeLines w (e ∷ es) = writeLine w (edgeLine e) ++ edgeLines w es
 
-unfoldable pub writeIn : ℕ → Net → List ℕ
+unfoldable pub writeIn : Columns → Net → Bytes
 writeIn w N =
     writeLine w (headerLine N)
     ++ (vertexLines w 0 (take (N .«vertex_count») (N .vertices))
     ++ edgeLines w (take (N .«edge_count») (N .edges)))
 
 -- in the width in force
-abbrev pub writeSheet : Net → List ℕ
+abbrev pub writeSheet : Net → Bytes
 writeSheet N = writeIn fieldWidth N

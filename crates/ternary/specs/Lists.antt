@@ -5,6 +5,10 @@ use mathlib.Core.List.{List, [], _∷_, _++_}
 use mathlib.Core.Option.{Option, none, some}
 use lib.Dec.{eqb}
 
+-- the bytes of a sheet, of job lines, of a lent buffer
+abbrev pub Bytes : Type 0
+Bytes = List ℕ
+
 -- f 0 to f (n - 1)
 unfoldable pub table : {A : Type 0} → ℕ → (ℕ → A) → List A
 table zero f = []
