@@ -14,6 +14,7 @@ use sheet::Line;
 
 // A record's roles, forms and ends are bytes, its labels and symbols are of two bytes; a larger number of a line is none of them.
 const LARGEST: u32 = u8::MAX as u32;
+
 const LARGEST_SYMBOL: u32 = u16::MAX as u32;
 
 fn vertex_of(v: Line) -> Vertex

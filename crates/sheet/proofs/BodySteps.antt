@@ -4,7 +4,7 @@ use native.Mathlib.Omega.{arith}
 use mathlib.Core.Path.{_≡_, refl, sym, subst}
 use mathlib.Core.Bool.{Bool, true, false, cond, true≢false}
 use lib.Dec.{ltb}
-use borrow.Author.Tests.{eq-eqb, ne-eqb, lt-ltb, le-ltb, ltb-true, ltb-false}
+use borrow.Author.Tests.{eq-eqb, ne-eqb, eqb-true, lt-ltb, le-ltb, ltb-true, ltb-false}
 use Rattle.net.specs.declared.Net.{Net}
 use Rattle.net.specs.Limits.{mostVertices, mostEdges}
 use Rattle.net.specs.Symbols.{symbolBound}
@@ -37,19 +37,17 @@ module _ (N : Net) (j : ℕ) (v : Line) where
   unfolding vertexLineOk
   no-vertex-line f = rw (ne-eqb (v .kind) 2 f)
 
-  module _ (kind : v .kind ≡ 2) where
-    pub other-number : (v .second ≡ suc j → ⊥) → false ≡ vertexLineOk N j v
-    unfolding vertexLineOk
-    other-number f = rw (eq-eqb (v .kind) 2 kind, ne-eqb (v .second) (suc j) f)
+  pub other-number : (v .second ≡ suc j → ⊥) → false ≡ vertexLineOk N j v
+  unfolding vertexLineOk
+  other-number f = sym (fails (vertexLineOk N j v) (λ t. f (eqb-true (v .second) (suc j) (search ands))))
 
-    module _ (number : v .second ≡ suc j) where
-      pub other-fifth : (v .fifth ≡ 0 → ⊥) → false ≡ vertexLineOk N j v
-      unfolding vertexLineOk
-      other-fifth f = rw (eq-eqb (v .kind) 2 kind, eq-eqb (v .second) (suc j) number, ne-eqb (v .fifth) 0 f)
+  pub other-fifth : (v .fifth ≡ 0 → ⊥) → false ≡ vertexLineOk N j v
+  unfolding vertexLineOk
+  other-fifth f = sym (fails (vertexLineOk N j v) (λ t. f (eqb-true (v .fifth) 0 (search ands))))
 
-      pub vertex-line : v .fifth ≡ 0 → vertexOk N (vertexOf v) ≡ vertexLineOk N j v
-      unfolding vertexLineOk
-      vertex-line z = rw (eq-eqb (v .kind) 2 kind, eq-eqb (v .second) (suc j) number, eq-eqb (v .fifth) 0 z)
+  pub vertex-line : v .kind ≡ 2 → v .second ≡ suc j → v .fifth ≡ 0 → vertexOk N (vertexOf v) ≡ vertexLineOk N j v
+  unfolding vertexLineOk
+  vertex-line kind number z = rw (eq-eqb (v .kind) 2 kind, eq-eqb (v .second) (suc j) number, eq-eqb (v .fifth) 0 z)
 
 -- ---- an edge line
 

@@ -20,6 +20,7 @@ use sheet::Sheet;
 
 // The buffer that a field is written to, and what it holds before.
 const FIELD_BUFFER: usize = 12;
+
 const UNTOUCHED: u8 = b'?';
 
 // The buffer for the input. The clause tells its length, which lending a part needs.
@@ -139,10 +140,17 @@ fn print_answer(cases: &[u8], at: usize)
         b'S' => print_reading(reader::read(bytes)),
         b's' => print_reading(reader::read_in(bytes, columns_at(cases, at + Case::FIRST))),
         b'L' => print_line(bytes, number_at(cases, at + Case::FIRST) as usize),
-        b'l' => print_part(lines::line_in(bytes, columns_at(cases, at + Case::FIRST), number_at(cases, at + Case::SECOND) as usize)),
+        b'l' => print_part(lines::line_in(
+            bytes,
+            columns_at(cases, at + Case::FIRST),
+            number_at(cases, at + Case::SECOND) as usize,
+        )),
         b'J' => print_job(bytes),
         b'j' => print_job_in(bytes, columns_at(cases, at + Case::FIRST)),
-        _ => print_field(number_at(cases, at + Case::FIRST) as u64, number_at(cases, at + Case::SECOND) as usize),
+        _ => print_field(
+            number_at(cases, at + Case::FIRST) as u64,
+            number_at(cases, at + Case::SECOND) as usize,
+        ),
     }
 }
 

@@ -21,15 +21,15 @@ shared-slice-read-if1 c = search needs
 last-column-requires : tie.Need-last-column-requires Inv-loop μ-loop
 last-column-requires c κs = search needs
 
+-- the start, from where the last column was worked out
+abbrev start : tie.After-last-column Inv-loop μ-loop → tie.Start Inv-loop μ-loop
+start c = c .before .before .before
+
 returns : tie.Need-returns Inv-loop μ-loop
-returns c =
-    let start = c .before .before .before .before in
-    sym (last-differs _ _ _ refl (start .pre) (λ e. c .if1 .taken (e ∙ sym (c .before .last-column .ensures))))
+returns c = sym (last-differs _ _ _ refl (start (c .before) .pre) (λ e. c .if1 .taken (e ∙ sym (c .before .last-column .ensures))))
 
 loop-holds : tie.Need-loop-holds Inv-loop μ-loop
-loop-holds c =
-    let start = c .before .before .before .before in
-    last-agrees _ _ _ refl (start .pre) (c .if1 .left ∙ c .before .last-column .ensures)
+loop-holds c = last-agrees _ _ _ refl (start (c .before) .pre) (c .if1 .left ∙ c .before .last-column .ensures)
 
 sub-i-2 : tie.Need-sub-i-2 Inv-loop μ-loop
 sub-i-2 c = search needs

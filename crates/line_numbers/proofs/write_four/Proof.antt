@@ -10,6 +10,16 @@ use Rattle.settlements.proofs.FrontLaws.{first-field, next-field, last-field, a
 use Rattle.line_numbers.proofs.write_four.Statement.{statement}
 use Rattle.line_numbers.proofs.write_four.Tie as tie
 
+-- places, each from a later one: each field written
+abbrev third-written : tie.After-write-field4 → tie.After-write-field3
+third-written c = c .before .before .before .before
+
+abbrev second-written : tie.After-write-field3 → tie.After-write-field2
+second-written c = c .before .before .before .before
+
+abbrev first-written : tie.After-write-field2 → tie.After-write-field
+first-written c = c .before .before .before .before
+
 mul-two : tie.Need-mul-two
 mul-two c = search needs
 
@@ -67,9 +77,9 @@ same-length c = search needs
 returns : tie.Need-returns
 returns c =
     let fourth = c .before .before in
-    let third = fourth .before .before .before .before in
-    let second = third .before .before .before .before in
-    let first = second .before .before .before .before in
+    let third = third-written fourth in
+    let second = second-written third in
+    let first = first-written second in
     let s = first .before .before .before in
     let f₁ = first-field fieldWidth _ (s .args .out .now) (first .write-field .ensures) (s .pre) (omega arith) in
     let f₂ = next-field f₁ fieldWidth _ (2 * fieldWidth) (second .write-field2 .ensures) (omega arith) (omega arith) in
