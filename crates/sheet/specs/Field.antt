@@ -15,7 +15,7 @@ unfoldable pub column : ℕ → ℕ → ℕ
 column n zero = digitZero + n % 10
 column n (suc k) = cond (ltb n (10 ^ suc k)) blank (digitZero + n / 10 ^ suc k % 10)
 
--- the field of w columns of a number below 10 ^ w
+-- the field of w columns of a number below 10 ^ w; of a larger one, which has no such field, its last w digits
 unfoldable pub writeField : Columns → ℕ → Bytes
 writeField zero n = []
 writeField (suc w) n = column n w ∷ writeField w n
