@@ -1,5 +1,5 @@
-//! How a case of the test programs is laid out in their input. Each number has a field of the widest kind. A case may bring the sheet for the cases after it, or a note
-//! that is printed as it stands. Numbers of their answers have a field each.
+//! How a case of the test programs is laid out in their input. Each number has a field of the widest kind. A case may bring the sheet for the cases after
+//! it, or a note that is printed as it stands. Numbers of their answers have a field each.
 
 ghost use mathlib.Core.Path.{_≡_};
 ghost use Rattle.sheet.specs.Line.{writeNumber};

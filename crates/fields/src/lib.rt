@@ -6,7 +6,7 @@ ghost use Prim.Native.Nat.{_+_, _-_, _%_, _≤_};
 ghost use lib.Dec.{eqb};
 ghost use lib.ListN.{length};
 ghost use Rattle.ternary.specs.Lists.{same};
-ghost use Rattle.sheet.specs.Limits.{mostColumns, blank, digitZero};
+ghost use Rattle.sheet.specs.Limits.{mostColumns, ReadColumns, blank, digitZero};
 ghost use Rattle.sheet.specs.Field.{fieldValue, writeField, readField, fieldAnswer};
 use sheet::Field;
 use sheet::Sheet;
@@ -76,7 +76,7 @@ fn is_field(b: &[u8], n: u64) -> bool
 
 // A field is a number's exactly if writing the number in its columns gives the same bytes.
 pub fn read_field(b: &[u8], columns: usize) -> Field
-    requires { ⌜ (1 ≤ columns) × (columns ≤ mostColumns) ⌝ }
+    requires { ⌜ ReadColumns columns ⌝ }
     ensures { λ r. ⌜ r ≡ fieldAnswer (readField columns (now (b .entry))) ⌝ }
 {
     if b.len() != columns {

@@ -1,9 +1,9 @@
 //! The numbers of a line: the five of any line, and the three that a job line asks for. Types, definitions and laws are those of the crate `sheet`.
 
 ghost use mathlib.Core.Path.{_≡_};
-ghost use Prim.Native.Nat.{_≤_, _<_};
+ghost use Prim.Native.Nat.{_<_};
 ghost use lib.ListN.{length};
-ghost use Rattle.sheet.specs.Limits.{fieldCount, mostColumns, lineBytes};
+ghost use Rattle.sheet.specs.Limits.{fieldCount, ReadColumns, lineBytes};
 ghost use Rattle.sheet.specs.Field.{fieldAnswer};
 ghost use Rattle.sheet.specs.Line.{fieldAt, readLine, lineAnswer};
 ghost use Rattle.sheet.specs.Job.{jobIn, jobOf};
@@ -15,7 +15,7 @@ use sheet::Sheet;
 
 // Field i of a line, counted from 0.
 fn field_of(part: &[u8], i: usize, columns: usize) -> Field
-    requires { ⌜ (1 ≤ columns) × (columns ≤ mostColumns) × (length (now part) ≡ lineBytes columns) × (i < fieldCount) ⌝ }
+    requires { ⌜ ReadColumns columns × (length (now part) ≡ lineBytes columns) × (i < fieldCount) ⌝ }
     ensures { λ r. ⌜ r ≡ fieldAnswer (fieldAt columns (now (part .entry)) i) ⌝ }
 {
     let a = columns * i;
@@ -25,7 +25,7 @@ fn field_of(part: &[u8], i: usize, columns: usize) -> Field
 
 // The numbers of a line, which is five fields of so many columns and the byte that ends it.
 pub fn read_line(part: &[u8], columns: usize) -> LineRead
-    requires { ⌜ (1 ≤ columns) × (columns ≤ mostColumns) ⌝ }
+    requires { ⌜ ReadColumns columns ⌝ }
     ensures { λ r. ⌜ r ≡ lineAnswer (readLine columns (now (part .entry))) ⌝ }
 {
     let width = sheet::line_bytes(columns);
@@ -61,7 +61,7 @@ pub fn read_line(part: &[u8], columns: usize) -> LineRead
 
 // A job line with so many columns a field is 4, the old input state, the new one, the start and 0.
 pub fn job_in(bytes: &[u8], columns: usize) -> JobLine
-    requires { ⌜ (1 ≤ columns) × (columns ≤ mostColumns) ⌝ }
+    requires { ⌜ ReadColumns columns ⌝ }
     ensures { λ r. ⌜ r ≡ jobIn columns (now (bytes .entry)) ⌝ }
 {
     let LineRead::Five(v) = read_line(bytes, columns) else {

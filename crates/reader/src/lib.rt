@@ -6,7 +6,7 @@ pub mod body;
 ghost use mathlib.Core.Path.{_≡_};
 ghost use Prim.Native.Nat.{_+_, _*_, _≤_};
 ghost use lib.ListN.{length, drop};
-ghost use Rattle.sheet.specs.Limits.{mostColumns, lineBytes};
+ghost use Rattle.sheet.specs.Limits.{mostColumns, ReadColumns, lineBytes};
 ghost use Rattle.sheet.specs.Rows.{answer, firstRow};
 ghost use Rattle.sheet.specs.Graph.{graphRows};
 ghost use Rattle.sheet.specs.Checked.{Checked, SoFar};
@@ -99,7 +99,7 @@ fn concluded(net: Net) -> Reading
 
 // The lines below the header; reading stops at the first that is refused.
 fn read_lines(sheet: &[u8], columns: usize, start: Net, count: usize) -> Reading
-    requires { ⌜ SoFar start 0 × (count ≡ start .«vertex_count» + start .«edge_count») × (lineBytes columns * (1 + count) ≤ length (now sheet)) × (1 ≤ columns) × (columns ≤ mostColumns) ⌝ }
+    requires { ⌜ SoFar start 0 × (count ≡ start .«vertex_count» + start .«edge_count») × (lineBytes columns * (1 + count) ≤ length (now sheet)) × ReadColumns columns ⌝ }
     ensures { λ r. ⌜ r ≡ readLines columns count (drop (lineBytes columns) (now (sheet .entry))) 0 start ⌝ }
 {
     let width = sheet::line_bytes(columns);
@@ -124,7 +124,7 @@ fn read_lines(sheet: &[u8], columns: usize, start: Net, count: usize) -> Reading
 
 // The record of a sheet with so many columns a field, or the number and place of its first fault.
 pub fn read_in(sheet: &[u8], columns: usize) -> Reading
-    requires { ⌜ (1 ≤ columns) × (columns ≤ mostColumns) ⌝ }
+    requires { ⌜ ReadColumns columns ⌝ }
     ensures { λ r. ⌜ r ≡ readIn columns (now (sheet .entry)) ⌝ }
 {
     let width = sheet::line_bytes(columns);

@@ -21,7 +21,7 @@ use Rattle.sheet.specs.Reading.{readLines, sizeOk, readHeader, readIn}
 use Rattle.sheet.proofs.WholeLines.{whole-first, lines-room}
 use Rattle.sheet.proofs.RuleLaws.{Counts, counts-facts}
 use Rattle.sheet.proofs.Progress.{none-yet}
-use Rattle.sheet.proofs.ReaderSteps.{line-none, line-some}
+use Rattle.sheet.proofs.LineSteps.{five-of, unread-of}
 
 module _ (w : ℕ) (b : List ℕ) where
   -- the first line as it is lent, by the width that the code works out
@@ -43,12 +43,12 @@ module _ (w : ℕ) (b : List ℕ) where
 
     pub bad-first-line : lineAnswer (readLine w (take (lineBytes w) b)) ≡ Refused → refused (answer 12 1) ≡ readIn w b
     unfolding readIn readHeader
-    bad-first-line e = rw (size, line-none (readLine w (take (lineBytes w) b)) e)
+    bad-first-line e = rw (size, unread-of (readLine w (take (lineBytes w) b)) e)
 
     module _ (h : Line) (five : lineAnswer (readLine w (take (lineBytes w) b)) ≡ Five h) where
       pub bad-header : headerOk h ≡ false → refused (answer 13 1) ≡ readIn w b
       unfolding readIn readHeader
-      bad-header e = rw (size, line-some (readLine w (take (lineBytes w) b)) h five, e)
+      bad-header e = rw (size, five-of (readLine w (take (lineBytes w) b)) h five, e)
 
       module _ (ok : headerOk h ≡ true) where
         pub header-counts : Counts (h .second) (h .third) (h .fourth)
@@ -69,7 +69,7 @@ module _ (w : ℕ) (b : List ℕ) where
           bad-line-count ne =
               rw (
                 size,
-                line-some (readLine w (take (lineBytes w) b)) h five,
+                five-of (readLine w (take (lineBytes w) b)) h five,
                 ok,
                 ne-eqb (length b / lineBytes w) (1 + h .second + h .third) (λ e. ne (omega (arith, lines-alike, e))),
               )
@@ -83,7 +83,7 @@ module _ (w : ℕ) (b : List ℕ) where
             body-read =
                 rw (
                   size,
-                  line-some (readLine w (take (lineBytes w) b)) h five,
+                  five-of (readLine w (take (lineBytes w) b)) h five,
                   ok,
                   eq-eqb (length b / lineBytes w) (1 + h .second + h .third) (omega (arith, lines-alike, lines)),
                 )

@@ -2,7 +2,6 @@
 use Prim.Native.Nat.{ℕ, _+_, _-_}
 use native.Mathlib.Omega.{arith}
 use mathlib.Core.Path.{_≡_, refl, sym, ap, _∙_}
-use mathlib.Core.Bool.{true≢false}
 use mathlib.Core.List.{List}
 use mathlib.Core.Logic.{_≢_}
 use mathlib.Core.Option.{Option, none, some}
@@ -21,16 +20,9 @@ use Rattle.sheet.specs.Graph.{graphRows}
 use Rattle.sheet.specs.Reading.{addLine, stepLine, conclude}
 use Rattle.sheet.specs.Reading.Step.{next, stop}
 use Rattle.sheet.specs.Entries.{decodeLine, withEntry, stepOf}
+use Rattle.sheet.proofs.LineSteps.{five-of, unread-of, part}
 use Rattle.sheet.proofs.BodySteps.{decoded-step}
 use Rattle.sheet.proofs.RowLaws.{positive, answered-zero, first-none}
-
-pub line-none : (o : Option Line) → lineAnswer o ≡ NoLine → o ≡ none
-line-none none e = refl
-line-none (some v) e = absurd (true≢false (cc))
-
-pub line-some : (o : Option Line) (v : Line) → lineAnswer o ≡ Five v → o ≡ some v
-line-some none v e = absurd (true≢false (cc))
-line-some (some u) v e = ap some (cc)
 
 -- the part of the sheet that is lent, `width` bytes long, which the code works out
 abbrev pub lent : ℕ → List ℕ → ℕ → List ℕ
@@ -38,17 +30,17 @@ lent width b at = take (at + width - at) (drop at b)
 
 module _ (w : ℕ) (b : List ℕ) (at j : ℕ) (N : Net) (width : ℕ) (is : width ≡ lineBytes w) where
   whole-line : lent width b at ≡ take (lineBytes w) (drop at b)
-  whole-line = let n : at + width - at ≡ lineBytes w = omega (arith, is) in rw n
+  whole-line = part b at width ∙ rw is
 
   -- it is not five fields
   pub not-fields : lineAnswer (readLine w (lent width b at)) ≡ NoLine → stepLine (readLine w (take (lineBytes w) (drop at b))) j N ≡ stop 12
   unfolding stepLine
-  not-fields e = rw (line-none (readLine w (take (lineBytes w) (drop at b))) (rw whole-line at e))
+  not-fields e = rw (unread-of (readLine w (take (lineBytes w) (drop at b))) (rw whole-line at e))
 
   module _ (v : Line) (five : lineAnswer (readLine w (lent width b at)) ≡ Five v) where
     step-is : stepLine (readLine w (take (lineBytes w) (drop at b))) j N ≡ addLine N j v
     unfolding stepLine
-    step-is = rw (line-some (readLine w (take (lineBytes w) (drop at b))) v (rw whole-line at five))
+    step-is = rw (five-of (readLine w (take (lineBytes w) (drop at b))) v (rw whole-line at five))
 
     -- its values are refused
     pub line-stops : (n : ℕ) → decodeLine N j v ≡ Refused n → stepLine (readLine w (take (lineBytes w) (drop at b))) j N ≡ stop n

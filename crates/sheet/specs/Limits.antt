@@ -1,5 +1,5 @@
 -- The widths of a sheet and its bytes, written once.
-use Prim.Native.Nat.{ℕ, _+_, _*_}
+use Prim.Native.Nat.{ℕ, _+_, _*_, _≤_}
 use Rattle.net.specs.Limits.{mostVertices, mostEdges}
 use Rattle.sheet.specs.declared.Widths.{Widths}
 
@@ -17,6 +17,11 @@ fieldCount = 5
 -- the widest field that is read: the numbers of a line are held in 32 bits, and so each of 9 digits is, but not each of 10
 abbrev pub mostColumns : Columns
 mostColumns = 9
+
+-- fields of so many columns are read: of some, and no more
+pub record ReadColumns (w : Columns) : Type 0 where
+  pub some-column : 1 ≤ w
+  pub held : w ≤ mostColumns
 
 -- the fewest columns that hold every number of a record: its symbols have three digits
 abbrev pub recordColumns : Columns

@@ -2,10 +2,10 @@
 //! writer of a field, and prints each answer beside the case's note. tests/sheet_cases.py tells the layout of a case and where each expected answer
 //! comes from.
 
-ghost use Prim.Native.Nat.{_≤_, _<_};
+ghost use Prim.Native.Nat.{_<_};
 ghost use mathlib.Core.Path.{_≡_};
 ghost use lib.ListN.{length};
-ghost use Rattle.sheet.specs.Limits.{mostColumns};
+ghost use Rattle.sheet.specs.Limits.{ReadColumns};
 use cases::Case;
 use cases::Input;
 use cases::data_of;
@@ -99,7 +99,7 @@ fn print_job(bytes: &[u8]) {
 
 // A job line of another width: its three numbers in a field of the buffer each, or 46.
 fn print_job_in(bytes: &[u8], columns: usize)
-    requires { ⌜ (1 ≤ columns) × (columns ≤ mostColumns) ⌝ }
+    requires { ⌜ ReadColumns columns ⌝ }
 {
     match line_values::job_in(bytes, columns) {
         JobLine::Asked(old, new, start) => {
@@ -113,7 +113,7 @@ fn print_job_in(bytes: &[u8], columns: usize)
 
 // The columns that a case asks for, made such as are read.
 fn columns_at(cases: &[u8], at: usize) -> usize
-    ensures { λ r. ⌜ (1 ≤ r) × (r ≤ mostColumns) ⌝ }
+    ensures { λ r. ⌜ ReadColumns r ⌝ }
 {
     let columns = number_at(cases, at) as usize;
     if columns == 0 {

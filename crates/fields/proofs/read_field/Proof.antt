@@ -18,7 +18,7 @@ is-field-requires c κs = search needs
 cast-t7 : tie.Need-cast-t7
 cast-t7 c =
     let e = c .before .before .before in
-    omega (arith, field-fits _ _ _ (c .before .before .value .ensures) (sym (c .before .is-field .ensures) ∙ c .if2 .taken) (omega (arith, e .if1 .left, e .before .before .pre .1)))
+    omega (arith, field-fits _ _ _ (c .before .before .value .ensures) (sym (c .before .is-field .ensures) ∙ c .if2 .taken) (omega (arith, e .if1 .left, e .before .before .pre .held)))
 
 returns-2 : tie.Need-returns-2
 returns-2 c =

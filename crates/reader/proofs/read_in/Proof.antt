@@ -151,13 +151,11 @@ read-lines-requires c κs =
     let w = start past .args .columns in
     let b = now (start past .args .sheet) in
     let five = five-at (header-at e) in
-    let columns-fit = start past .pre in
     rw (c .start-net .ensures) (
       start-so-far w b (size-at past) _ five (ok-at e),
       refl,
       body-room w b (size-at past) _ five (ok-at e) _ (width-is past) (past-count .if3 .left),
-      columns-fit .0,
-      columns-fit .1,
+      start past .pre,
     )
 
 returns-5 : tie.Need-returns-5

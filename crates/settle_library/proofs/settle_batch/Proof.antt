@@ -1,5 +1,4 @@
--- `settle_library::settle_batch` meets its contract: the reader's answer, then the batch. Of the places, t is where the reader has refused and e where
--- it has not, b after the batch, k after the key nodes are counted. Assumes nothing.
+-- `settle_library::settle_batch` meets its contract: the reader's answer, then the batch. Assumes nothing.
 use native.Mathlib.Omega.{arith}
 use borrow.Author.Needs.{needs}
 use Rattle.sheet.proofs.Outcome.{valid-at-zero}
@@ -7,6 +6,16 @@ use Rattle.troubles.proofs.FitLaws.{valid-fit}
 use Rattle.output.proofs.ForCSteps.{batch-refused, batch-run}
 use Rattle.settle_library.proofs.settle_batch.Statement.{statement}
 use Rattle.settle_library.proofs.settle_batch.Tie as tie
+
+-- places, each from a later one: the sheet read, its number 0, the batch run
+abbrev sheet-read : tie.Else1 → tie.After-read
+sheet-read c = c .before .before .before
+
+abbrev number-0 : tie.After-batch → tie.Else1
+number-0 c = c .before .before .before .before
+
+abbrev batch-ran : tie.After-slice-known4 → tie.After-batch
+batch-ran c = c .before .before .before .before
 
 read-requires : tie.Need-read-requires
 read-requires c κs = search needs
@@ -27,8 +36,8 @@ batch-requires c κs = search needs
 
 key-count-requires : tie.Need-key-count-requires
 key-count-requires c κs =
-    let e = c .before .before .before .before .before .before .before .before in
-    valid-fit _ (valid-at-zero _ _ _ (e .before .before .before .read .ensures) (e .if1 .left)) .readable
+    let e = number-0 (batch-ran c) in
+    valid-fit _ (valid-at-zero _ _ _ (sheet-read e .read .ensures) (e .if1 .left)) .readable
 
 cast-place-2 : tie.Need-cast-place-2
 cast-place-2 c = search needs
@@ -36,8 +45,8 @@ cast-place-2 c = search needs
 cast-h : tie.Need-cast-h
 cast-h c =
     let k = c .before in
-    let e = k .before .before .before .before .before .before .before .before .before in
-    record { fits = omega (arith, k .key-count .ensures, valid-fit _ (valid-at-zero _ _ _ (e .before .before .before .read .ensures) (e .if1 .left)) .keys) }
+    let e = number-0 (batch-ran (k .before)) in
+    record { fits = omega (arith, k .key-count .ensures, valid-fit _ (valid-at-zero _ _ _ (sheet-read e .read .ensures) (e .if1 .left)) .keys) }
 
 cast-result-2 : tie.Need-cast-result-2
 cast-result-2 c = search needs
@@ -51,9 +60,9 @@ same-length-2 c = search needs
 returns-2 : tie.Need-returns-2
 returns-2 c =
     let k = c .before .before in
-    let b = k .before .before .before .before .before in
-    let e = b .before .before .before .before in
-    batch-run _ _ _ _ _ (e .before .before .before .read .ensures) (e .if1 .left) (b .batch .ensures) (k .key-count .ensures)
+    let b = batch-ran (k .before) in
+    let e = number-0 b in
+    batch-run _ _ _ _ _ (sheet-read e .read .ensures) (e .if1 .left) (b .batch .ensures) (k .key-count .ensures)
 
 pub settle-batch-spec : {M : Type 1} → statement M
 settle-batch-spec =
