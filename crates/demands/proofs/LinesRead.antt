@@ -8,7 +8,7 @@ use lib.ListN.{take, drop, length-take}
 use lib.Seq.{take-take}
 use Rattle.sheet.specs.Limits.{lineWidth}
 use Rattle.settlements.specs.Batch.{jobCount}
-use Rattle.settlements.proofs.Parts.{drop-take}
+use Rattle.sheet.proofs.Parts.{drop-take}
 use Rattle.output.specs.Limits.{mostJobs}
 use Rattle.output.proofs.OutputLines.{linesRead}
 use Rattle.demands.specs.Demand1.{lineOf}

@@ -1,8 +1,9 @@
-//! One field in code: blanks, then a decimal number, right-justified and without leading zeros. Types, definitions and laws are those of the crate `sheet`.
+//! Fields in code: blanks, then a decimal number, right-justified and without leading zeros. Types, definitions and laws are those of the crate `sheet`.
 
 ghost use mathlib.Core.Path.{_≡_};
 ghost use mathlib.Core.Bool.{cond};
-ghost use Prim.Native.Nat.{_+_, _-_, _%_, _≤_};
+ghost use mathlib.Core.List.{_++_};
+ghost use Prim.Native.Nat.{_+_, _-_, _*_, _%_, _≤_};
 ghost use lib.Dec.{eqb};
 ghost use lib.ListN.{length};
 ghost use Rattle.ternary.specs.Lists.{same};
@@ -105,4 +106,17 @@ pub fn write_field(out: &mut [u8], n: u64)
         rest = rest / BASE;
         out[i] = left_column(rest);
     }
+}
+
+// Four numbers, a field of so many columns each.
+pub fn write_four(out: &mut [u8], columns: usize, first: u64, second: u64, third: u64, fourth: u64)
+    requires { ⌜ (columns ≤ mostColumns) × (length (now out) ≡ columns * 4) ⌝ }
+    ensures { λ _. ⌜ now (out .exit) ≡ writeField columns first ++ writeField columns second ++ writeField columns third ++ writeField columns fourth ⌝ }
+{
+    let two = columns + columns;
+    let three = two + columns;
+    write_field(&mut out[..columns], first);
+    write_field(&mut out[columns..two], second);
+    write_field(&mut out[two..three], third);
+    write_field(&mut out[three..], fourth);
 }

@@ -1,11 +1,11 @@
-//! The numbers of a line: the five of any line, and the three that a job line asks for. Types, definitions and laws are those of the crate `sheet`.
+//! The numbers of a line: the five of any line, read and written, and the three that a job line asks for. Types, definitions and laws are those of the crate `sheet`.
 
 ghost use mathlib.Core.Path.{_≡_};
-ghost use Prim.Native.Nat.{_<_};
+ghost use Prim.Native.Nat.{_≤_, _<_};
 ghost use lib.ListN.{length};
-ghost use Rattle.sheet.specs.Limits.{fieldCount, ReadColumns, lineBytes};
+ghost use Rattle.sheet.specs.Limits.{mostColumns, fieldCount, ReadColumns, lineBytes};
 ghost use Rattle.sheet.specs.Field.{fieldAnswer};
-ghost use Rattle.sheet.specs.Line.{fieldAt, readLine, lineAnswer};
+ghost use Rattle.sheet.specs.Line.{fieldAt, readLine, writeLine, lineAnswer};
 ghost use Rattle.sheet.specs.Job.{jobIn, jobOf};
 use sheet::Field;
 use sheet::JobLine;
@@ -57,6 +57,25 @@ pub fn read_line(part: &[u8], columns: usize) -> LineRead
         fourth,
         fifth,
     })
+}
+
+// Writes a line: five fields of so many columns and the byte that ends it.
+pub fn write_line(out: &mut [u8], columns: usize, line: Line)
+    requires { ⌜ (columns ≤ mostColumns) × (length (now out) ≡ lineBytes columns) ⌝ }
+    ensures { λ _. ⌜ now (out .exit) ≡ writeLine columns line ⌝ }
+{
+    let four = columns * (Sheet::FIELDS - 1);
+    let end = columns * Sheet::FIELDS;
+    fields::write_four(
+        &mut out[..four],
+        columns,
+        line.kind as u64,
+        line.second as u64,
+        line.third as u64,
+        line.fourth as u64,
+    );
+    fields::write_field(&mut out[four..end], line.fifth as u64);
+    out[end] = Sheet::LINE_END;
 }
 
 // A job line with so many columns a field is 4, the old input state, the new one, the start and 0.

@@ -8,7 +8,7 @@ use lib.ListN.{length, take, drop, length-drop, take-append-drop}
 use lib.Seq.{length-take-le, drop-drop}
 use borrow.Rule.Slice.PartMut.{putMid}
 use Rattle.settlements.specs.Batch.{answerWidth}
-use Rattle.settlements.proofs.Parts.{part-width, parts-left, room-now, room-then, part-taken, part-dropped, part-length}
+use Rattle.sheet.proofs.Parts.{part-width, parts-left, room-now, room-then, part-taken, part-dropped, part-length}
 use Rattle.output.specs.Limits.{jobBytes}
 use Rattle.output.specs.Text.{jobText, jobTexts}
 use Rattle.output.proofs.Lengths.{length-job}

@@ -10,7 +10,7 @@ use lib.Seq.{take-all, take-at, take-take, take-nil}
 use borrow.Author.Tests.{ltb-true, ltb-false, lt-ltb, le-ltb}
 use Rattle.ternary.proofs.Tests.{by-test, cond-by, or-false-iff}
 use Rattle.sheet.specs.Limits.{lineWidth}
-use Rattle.settlements.proofs.Parts.{drop-take}
+use Rattle.sheet.proofs.Parts.{drop-take}
 use Rattle.output.specs.declared.Written.{Written}
 use Rattle.output.specs.declared.Written.the-variants.{Bytes, Last}
 use Rattle.output.specs.declared.Next.{Next}

@@ -7,7 +7,7 @@ use lib.ListN.{length, take, drop, set, length-drop, drop-of-length-le}
 use lib.Seq.{take-all}
 use borrow.Rule.Slice.PartMut.{putMid}
 use Rattle.sheet.specs.Limits.{blank, lineEnd}
-use Rattle.settlements.proofs.FrontLaws.{Front, nothing, next-byte, next-part, lent-length, all-written}
+use Rattle.sheet.proofs.FrontLaws.{Front, nothing, next-byte, next-part, lent-length, all-written}
 use Rattle.output.specs.Text.{vectorText}
 use Rattle.output.proofs.Lengths.{length-vector}
 

@@ -23,9 +23,6 @@ use sheet::LineRead;
 use sheet::Reading;
 use sheet::Sheet;
 
-// The edition that this reader knows.
-const EDITION: u32 = 1;
-
 // The record of a header before any vertex or edge is read: all places zero.
 fn start_net(vertices: u8, edges: u16, letters: u8) -> Net
     ensures { λ r. ⌜ r ≡ startNet vertices edges letters ⌝ }
@@ -68,7 +65,7 @@ fn header_ok(h: Line) -> bool
     if h.kind != Line::HEADER {
         return false;
     }
-    if h.fifth != EDITION {
+    if h.fifth != Sheet::EDITION {
         return false;
     }
     rules::counts_ok(h.second as usize, h.third as usize, h.fourth as usize)

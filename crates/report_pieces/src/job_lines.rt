@@ -11,6 +11,7 @@ ghost use Rattle.output.specs.Limits.{jobBytes};
 ghost use Rattle.output.specs.Text.{jobText, jobTexts};
 use output::Report;
 use settlements::Settling;
+use sheet::Sheet;
 
 // The bytes of a job's line.
 pub(crate) fn job_bytes(h: usize) -> usize
@@ -29,8 +30,9 @@ fn write_job<'a, 'b>(out: &'a mut [u8], h: usize, n: usize, three: &'b [u8], own
     let first_steps = three[1];
     let second_steps = three[2];
     let end = Report::FOUR_FIELDS;
-    line_numbers::write_four(
+    fields::write_four(
         &mut out[..end],
+        Sheet::FIELD_WIDTH,
         n as u64,
         number as u64,
         first_steps as u64,

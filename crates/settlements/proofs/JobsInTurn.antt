@@ -14,7 +14,7 @@ use Rattle.settlements.specs.declared.Settling.{Settling}
 use Rattle.settlements.specs.Settle.{Settlement, settlement}
 use Rattle.settlements.specs.Batch.{jobCount, jobWidth, answerWidth, jobSettlement, Buffers, buffers, runJobs}
 use Rattle.settlements.proofs.BatchLaws.{vectorsOf, job-length}
-use Rattle.settlements.proofs.Parts.{part-width, room-now, room-then, part-taken, part-dropped, part-length}
+use Rattle.sheet.proofs.Parts.{part-width, room-now, room-then, part-taken, part-dropped, part-length}
 use Rattle.settlements.proofs.PieceLaws.{jobsOf, no-jobs, Ends, jobs-at}
 
 -- the jobs before `from` are done, and the rest of them gives the rest of both buffers

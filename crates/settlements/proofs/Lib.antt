@@ -2,8 +2,6 @@ pub mod Examples
 pub mod SettleLaws
 pub mod BatchLaws
 pub mod NumberLaws
-pub mod Parts
-pub mod FrontLaws
 pub mod WritingLaws
 pub mod PassedLaws
 pub mod SettleSteps

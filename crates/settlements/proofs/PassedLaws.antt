@@ -24,7 +24,7 @@ use Rattle.lookups.proofs.PassLaws.{passes-net}
 use Rattle.settlements.specs.Settle.{settling, settlement, written}
 use Rattle.settlements.specs.Batch.{jobWidth}
 use Rattle.settlements.specs.Ready.{Ready}
-use Rattle.settlements.proofs.Parts.{nothing-after}
+use Rattle.sheet.proofs.Parts.{nothing-after}
 use Rattle.settlements.proofs.NumberLaws.{numberOf, old-clean, new-clean}
 
 -- the front of a vector in more places is the vector

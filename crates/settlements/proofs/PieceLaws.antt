@@ -11,7 +11,7 @@ use Rattle.ternary.proofs.Tests.{by-test}
 use Rattle.sheet.specs.Limits.{lineWidth}
 use Rattle.settlements.specs.Batch.{jobCount, pieces}
 use Rattle.settlements.specs.Numbers.{pieceEnd}
-use Rattle.settlements.proofs.Parts.{part-width}
+use Rattle.sheet.proofs.Parts.{part-width}
 
 pub end-short : (len from : ℕ) → len - from < lineWidth → len ≡ pieceEnd len from
 unfolding pieceEnd

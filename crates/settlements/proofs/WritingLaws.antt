@@ -8,7 +8,7 @@ use lib.ListN.{length, take, drop, getD, set, length-append, length-drop, drop-o
 use lib.Seq.{paste-suc, length-take-le, take-at, sets-eq}
 use borrow.Rule.Slice.PartMut.{putMid}
 use Rattle.settlements.specs.Batch.{answerWidth}
-use Rattle.settlements.proofs.Parts.{nothing-after}
+use Rattle.sheet.proofs.Parts.{nothing-after}
 
 module _ (vector buffer : List ℕ) (i : ℕ) where
   pub byte-stored : i < length vector → i < length buffer

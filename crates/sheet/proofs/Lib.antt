@@ -1,6 +1,8 @@
 -- Laws of the sheet format.
 pub mod FieldLaws
 pub mod FieldSteps
+pub mod Parts
+pub mod FrontLaws
 pub mod WholeLines
 pub mod LineLaws
 pub mod LineSteps

@@ -55,6 +55,10 @@ digitZero = 48
 abbrev pub lineEnd : ℕ
 lineEnd = 10
 
+-- the edition that a header names
+abbrev pub edition : ℕ
+edition = 1
+
 abbrev pub widths : Widths
 widths =
     record {
@@ -67,4 +71,5 @@ widths =
       blank = blank;
       «digit_zero» = digitZero;
       «line_end» = lineEnd;
+      edition = edition;
     }

@@ -8,6 +8,7 @@ use Rattle.net.specs.Known.{knownSymbol, knownLabel}
 use Rattle.net.specs.declared.Vertex.{Vertex}
 use Rattle.net.specs.declared.Edge.{Edge}
 use Rattle.net.specs.declared.Net.{Net}
+use Rattle.sheet.specs.Limits.{edition}
 use Rattle.sheet.specs.declared.Line.{Line}
 use Rattle.sheet.specs.declared.Form.{Form}
 use Rattle.sheet.specs.declared.Form.the-variants.{Plain, Primed, Unknown}
@@ -16,9 +17,9 @@ use Rattle.sheet.specs.declared.Form.the-variants.{Plain, Primed, Unknow
 unfoldable pub countsOk : ℕ → ℕ → ℕ → Bool
 countsOk v e l = within 1 mostVertices v && leb e mostEdges && leb l mostLetters
 
--- header: 1, vertices, edges, letters, edition 1
+-- header: 1, vertices, edges, letters, the edition
 unfoldable pub headerOk : Line → Bool
-headerOk h = eqb (h .kind) 1 && eqb (h .fifth) 1 && countsOk (h .second) (h .third) (h .fourth)
+headerOk h = eqb (h .kind) 1 && eqb (h .fifth) edition && countsOk (h .second) (h .third) (h .fourth)
 
 -- role 0, an input vertex: its label is 0, 1 or a letter's symbol; roles 1 and 2, a storage vertex: label 0
 unfoldable pub vertexOk : Net → Vertex → Bool

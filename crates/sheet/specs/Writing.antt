@@ -7,11 +7,11 @@ use Rattle.net.specs.declared.Vertex.{Vertex}
 use Rattle.net.specs.declared.Edge.{Edge}
 use Rattle.net.specs.declared.Net.{Net}
 use Rattle.sheet.specs.declared.Line.{Line}
-use Rattle.sheet.specs.Limits.{Columns, fieldWidth}
+use Rattle.sheet.specs.Limits.{Columns, fieldWidth, edition}
 use Rattle.sheet.specs.Line.{line, writeLine}
 
 abbrev pub headerLine : Net → Line
-headerLine N = line 1 (N .«vertex_count») (N .«edge_count») (N .«letter_count») 1
+headerLine N = line 1 (N .«vertex_count») (N .«edge_count») (N .«letter_count») edition
 
 -- vertex j, counted from 0
 abbrev pub vertexLine : ℕ → Vertex → Line

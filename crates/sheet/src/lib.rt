@@ -31,6 +31,8 @@ impl Sheet {
     pub const DIGIT_ZERO: u8 = 48;
 
     pub const LINE_END: u8 = 10;
+    // The edition that a header names.
+    pub const EDITION: u32 = 1;
 }
 
 // What a field reads as.
@@ -72,7 +74,7 @@ pub enum Form {
     Unknown,
 }
 
-// An answer is 0 or a number of document 01, with a place.
+// An answer is 0 or a number of the papers, with a place.
 pub struct Answer {
     pub number: u8,
     pub place: u16,
@@ -118,6 +120,8 @@ impl Answer {
     pub const NO_LINE: u8 = 47;
 
     pub const NO_STORAGE_VERTEX: u8 = 48;
+    // Writing: the buffer is shorter than the sheet.
+    pub const SHORT_FOR_SHEET: u8 = 51;
 }
 
 // The place of a row, if its condition holds.
@@ -161,6 +165,7 @@ pub struct Widths {
     pub blank: u8,
     pub digit_zero: u8,
     pub line_end: u8,
+    pub edition: u32,
 }
 
 // The code's widths and bytes are those of the definitions.
@@ -177,6 +182,7 @@ pub fn widths_in_force() -> Widths
         blank: Sheet::BLANK,
         digit_zero: Sheet::DIGIT_ZERO,
         line_end: Sheet::LINE_END,
+        edition: Sheet::EDITION,
     }
 }
 

@@ -3,6 +3,13 @@ use Prim.Native.Nat.{ℕ, zero, suc, _+_, _*_, _/_, _%_}
 use mathlib.Core.Bool.{Bool, true, false}
 use lib.Dec.{eqb}
 
+-- the values of a net's letters as one number, letter j with weight 2 ^ (j - 1); and those of its key nodes, in vertex order
+abbrev pub InputState : Type 0
+InputState = ℕ
+
+abbrev pub KeyState : Type 0
+KeyState = ℕ
+
 -- bit k of n: 0 or 1
 unfoldable pub bit : ℕ → ℕ → ℕ
 bit n zero = n % 2

@@ -5,7 +5,7 @@ use mathlib.Core.List.{append-assoc}
 use lib.Seq.{length-take-le}
 use borrow.Author.Needs.{needs}
 use Rattle.sheet.specs.Limits.{lineEnd}
-use Rattle.settlements.proofs.FrontLaws.{first-part, next-byte, all-written}
+use Rattle.sheet.proofs.FrontLaws.{first-part, next-byte, all-written}
 use Rattle.output.specs.Output.{firstLine}
 use Rattle.output.proofs.Lengths.{length-four}
 use Rattle.line_numbers.proofs.write_first_line.Statement.{statement}
@@ -18,7 +18,7 @@ slice-aggregate-write-four : tie.Need-slice-aggregate-write-four
 slice-aggregate-write-four c = sym (length-take-le _ (c .before .before .args .out .now) (omega arith))
 
 write-four-requires : tie.Need-write-four-requires
-write-four-requires c κs = length-take-le _ (c .before .before .args .out .now) (omega arith)
+write-four-requires c κs = (omega arith, length-take-le _ (c .before .before .args .out .now) (omega arith))
 
 slice-write-out : tie.Need-slice-write-out
 slice-write-out c = search needs

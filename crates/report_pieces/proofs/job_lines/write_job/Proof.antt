@@ -4,7 +4,7 @@ use mathlib.Core.Path.{refl, sym, _∙_}
 use mathlib.Core.List.{append-assoc}
 use lib.Seq.{length-take-le}
 use borrow.Author.Needs.{needs}
-use Rattle.settlements.proofs.FrontLaws.{first-part, last-part, all-written}
+use Rattle.sheet.proofs.FrontLaws.{first-part, last-part, all-written}
 use Rattle.output.specs.Text.{jobText}
 use Rattle.output.proofs.Lengths.{length-four, length-both}
 use Rattle.report_pieces.proofs.job_lines.write_job.Statement.{statement}
@@ -35,7 +35,7 @@ cast-write-four-3 : tie.Need-cast-write-four-3
 cast-write-four-3 c = omega (arith, c .before .shared-slice-known5 .given 2)
 
 write-four-requires : tie.Need-write-four-requires
-write-four-requires c κs = length-take-le _ (c .before .before .before .before .before .before .before .args .out .now) (omega (arith, c .before .before .before .before .before .before .before .pre .0))
+write-four-requires c κs = (omega arith, length-take-le _ (c .before .before .before .before .before .before .before .args .out .now) (omega (arith, c .before .before .before .before .before .before .before .pre .0)))
 
 sub-write-both : tie.Need-sub-write-both
 sub-write-both c = search needs

@@ -1,14 +1,13 @@
 -- `write_four` meets its contract: the fields stand one after the other.
-use Prim.Native.Nat.{_*_}
+use Prim.Native.Nat.{_+_}
 use native.Mathlib.Omega.{arith}
 use mathlib.Core.Path.{refl, sym, _∙_}
 use mathlib.Core.List.{append-assoc}
 use lib.Seq.{length-take-le}
 use borrow.Author.Needs.{needs}
-use Rattle.sheet.specs.Limits.{fieldWidth}
-use Rattle.settlements.proofs.FrontLaws.{first-field, next-field, last-field, all-written}
-use Rattle.line_numbers.proofs.write_four.Statement.{statement}
-use Rattle.line_numbers.proofs.write_four.Tie as tie
+use Rattle.sheet.proofs.FrontLaws.{first-field, next-field, last-field, all-written}
+use Rattle.fields.proofs.write_four.Statement.{statement}
+use Rattle.fields.proofs.write_four.Tie as tie
 
 -- places, each from a later one: each field written
 abbrev third-written : tie.After-write-field4 → tie.After-write-field3
@@ -20,11 +19,11 @@ second-written c = c .before .before .before .before
 abbrev first-written : tie.After-write-field2 → tie.After-write-field
 first-written c = c .before .before .before .before
 
-mul-two : tie.Need-mul-two
-mul-two c = search needs
+add-two : tie.Need-add-two
+add-two c = search needs
 
-mul-three : tie.Need-mul-three
-mul-three c = search needs
+add-three : tie.Need-add-three
+add-three c = search needs
 
 slice-relend-prefix-write-field : tie.Need-slice-relend-prefix-write-field
 slice-relend-prefix-write-field c = search needs
@@ -81,18 +80,19 @@ returns c =
     let second = second-written third in
     let first = first-written second in
     let s = first .before .before .before in
-    let f₁ = first-field fieldWidth _ (s .args .out .now) (first .write-field .ensures) (s .pre) (omega arith) in
-    let f₂ = next-field f₁ fieldWidth _ (2 * fieldWidth) (second .write-field2 .ensures) (omega arith) (omega arith) in
-    let f₃ = next-field f₂ fieldWidth _ (3 * fieldWidth) (third .write-field3 .ensures) (omega arith) (omega arith) in
-    let f₄ = last-field f₃ fieldWidth _ (fourth .write-field4 .ensures) (omega arith) in
+    let w = s .args .columns in
+    let f₁ = first-field w _ (s .args .out .now) (first .write-field .ensures) (s .pre .1) (omega arith) in
+    let f₂ = next-field f₁ w _ (w + w) (second .write-field2 .ensures) (omega arith) (omega arith) in
+    let f₃ = next-field f₂ w _ (w + w + w) (third .write-field3 .ensures) (omega arith) (omega arith) in
+    let f₄ = last-field f₃ w _ (fourth .write-field4 .ensures) (omega arith) in
     all-written f₄ refl ∙ simp append-assoc
 
 pub write-four-spec : {M : Type 1} → statement M
 write-four-spec =
     tie.close
     (tie.spec
-    mul-two
-    mul-three
+    add-two
+    add-three
     slice-relend-prefix-write-field
     slice-aggregate-write-field
     write-field-requires

@@ -7,9 +7,9 @@ use mathlib.Core.List.{List, [], _∷_, _++_}
 use lib.ListN.{length, take, drop, set, length-append, length-drop, length-set}
 use lib.Seq.{length-take-le, take-all, take-at, take-suc-set}
 use borrow.Rule.Slice.PartMut.{putMid}
 use Rattle.sheet.specs.Field.{writeField}
 use Rattle.sheet.proofs.FieldLaws.{length-field}
-use Rattle.settlements.proofs.Parts.{part-taken, part-length}
+use Rattle.sheet.proofs.Parts.{part-taken, part-length}
 
 -- the first `at` of so many bytes are a text
 pub record Front (size at : ℕ) (text out : List ℕ) : Type 0 where

@@ -1,0 +1,12 @@
+pub mod OrderLaws
+pub mod SortingLaws
+pub mod Permuted
+pub mod SameNetLaws
+pub mod SameGraph
+pub mod SameSignals
+pub mod SameConditions
+pub mod SameRows
+pub mod AgreedLaws
+pub mod CarryingLaws
+pub mod LineSteps
+pub mod WriteLaws

@@ -1,0 +1,106 @@
+-- The sheet of a record part by part, and what the calls that write it answer.
+use Prim.Native.Nat.{ℕ, zero, suc, _+_, _*_, _≤_, _<_}
+use native.Mathlib.Nat.{add-zero, add-suc, suc-add, mul-suc}
+use native.Mathlib.Numerals.{add-one}
+use native.Mathlib.Omega.{arith}
+use mathlib.Core.Path.{_≡_, refl, sym, ap, _∙_}
+use mathlib.Core.Bool.{true, false}
+use mathlib.Core.Logic.{_↔_}
+use mathlib.Core.List.{List, [], _∷_, _++_, append-assoc, append-nil}
+use lib.Dec.{ltb}
+use lib.ListN.{length, getD, take, drop, length-append}
+use lib.Seq.{take-suc, length-take-le}
+use borrow.Author.Tests.{lt-ltb, le-ltb}
+use Rattle.net.specs.declared.Vertex.{Vertex}
+use Rattle.net.specs.declared.Edge.{Edge}
+use Rattle.net.specs.declared.Net.{Net}
+use Rattle.net.specs.Graph.{noVertex, noEdge}
+use Rattle.sheet.specs.Limits.{Columns, lineBytes}
+use Rattle.sheet.specs.Line.{writeLine}
+use Rattle.sheet.specs.Rows.{Row, answer, firstRow, byRows, answered, First, NoRow}
+use Rattle.sheet.specs.declared.Answer.{Answer}
+use Rattle.sheet.specs.Writing.{headerLine, vertexLine, edgeLine, vertexLines, edgeLines, writeIn}
+use Rattle.sheet.specs.Valid.{valid}
+use Rattle.sheet.proofs.RowLaws.{positive, by-rows-answer, by-rows-first, by-rows-fit, answered-zero, answered-some}
+use Rattle.sheet.proofs.LineLaws.{length-line}
+use Rattle.sheet.proofs.WriteLaws.{length-vertices, length-edges}
+use Rattle.sheet.proofs.Validity.{Valid, valid-iff, counts-of}
+use Rattle.ternary.specs.Lists.{Bytes}
+use Rattle.ternary.proofs.Tests.{by-test}
+use Rattle.writer.specs.Agreed.{canonical}
+use Rattle.writer.specs.Write.{Writing, writing, writingRows, writingBy}
+use Rattle.writer.specs.Placing.{Sized, placed}
+use Rattle.writer.proofs.AgreedLaws.{canonical-facts}
+
+module _ (w : Columns) where
+  -- ---- lengths
+
+  module _ (N : Net) (s : Sized N) where
+    pub vertices-length : length (vertexLines w 0 (take (N .«vertex_count») (N .vertices))) ≡ lineBytes w * N .«vertex_count»
+    vertices-length =
+        length-vertices w 0 _
+        ∙ ap (λ (n : ℕ). lineBytes w * n) (length-take-le (N .«vertex_count») (N .vertices) (omega (arith, s .vertices, s .vertex-places)))
+
+    pub edges-length : length (edgeLines w (take (N .«edge_count») (N .edges))) ≡ lineBytes w * N .«edge_count»
+    edges-length =
+        length-edges w _
+        ∙ ap (λ (n : ℕ). lineBytes w * n) (length-take-le (N .«edge_count») (N .edges) (omega (arith, s .edges, s .edge-places)))
+
+    pub sheet-length : length (writeIn w N) ≡ lineBytes w + lineBytes w * N .«vertex_count» + lineBytes w * N .«edge_count»
+    unfolding writeIn
+    sheet-length = simp (length-append, length-line w (headerLine N), vertices-length, edges-length) (omega arith)
+
+pub valid-sized : (N : Net) → valid N ≡ true → Sized N
+valid-sized N v =
+    let f = valid-iff N .0 v in
+    record { vertices = counts-of N f .vertices; edges = counts-of N f .edges; vertex-places = f .vertex-places; edge-places = f .edge-places }
+
+-- ---- a sheet of so many bytes, where it has room and where it has not
+
+module _ (sheet buffer : Bytes) {n : ℕ} (size : length sheet ≡ n) where
+  pub no-room : length buffer < n → writing (answer 51 0) 0 buffer ≡ placed sheet buffer
+  unfolding placed
+  no-room h = rw (size, lt-ltb (length buffer) n h)
+
+  pub room : n ≤ length buffer → {part : Bytes} → part ≡ sheet → writing (answer 0 0) n (part ++ drop n buffer) ≡ placed sheet buffer
+  unfolding placed
+  room h p = rw (size, le-ltb (length buffer) n h, p)
+
+-- ---- the calls, for a sheet of the record
+
+module _ (N : Net) (sheet buffer : Bytes) where
+  pub refused-record : valid N ≡ false → writing (answer 41 0) 0 buffer ≡ writingBy N sheet buffer
+  unfolding writingBy writingRows byRows firstRow
+  refused-record e = rw e
+
+  pub placed-record : valid N ≡ true → placed sheet buffer ≡ writingBy N sheet buffer
+  unfolding writingBy writingRows byRows firstRow placed
+  placed-record v = rw v (by-test (ltb (length buffer) (length sheet)) (λ t. rw t) (λ t. rw t))
+
+  -- ---- by its rows
+
+  abbrev rows : List Row
+  rows = writingRows N sheet buffer
+
+  writing-answer : writingBy N sheet buffer .answer ≡ answered (firstRow rows)
+  unfolding writingBy
+  writing-answer = by-rows-answer rows _ _ (λ (x : Writing). x .answer) refl (λ a. refl)
+
+  -- 0 exactly if no row's condition holds
+  pub writing-zero : (writingBy N sheet buffer .answer .number ≡ 0) ↔ NoRow rows
+  unfolding writingRows positive
+  writing-zero = rw (ap (λ (a : Answer). a .number) writing-answer) (answered-zero rows refl)
+
+  -- a number with its place exactly if its row is the first that holds
+  pub writing-number : (n p : ℕ) → 1 ≤ n → (writingBy N sheet buffer .answer ≡ answer n p) ↔ First rows n p
+  writing-number n p h = rw writing-answer (answered-some rows n p h)
+
+  -- and then the length is 0 and no byte changes
+  pub writing-refused : (n p : ℕ) → First rows n p → writingBy N sheet buffer ≡ writing (answer n p) 0 buffer
+  unfolding writingBy
+  writing-refused n p f = by-rows-first rows _ _ n p f
+
+  -- else the sheet stands at the front, and the bytes beyond it stay
+  pub writing-fit : NoRow rows → writingBy N sheet buffer ≡ writing (answer 0 0) (length sheet) (sheet ++ drop (length sheet) buffer)
+  unfolding writingBy
+  writing-fit f = by-rows-fit rows _ _ f

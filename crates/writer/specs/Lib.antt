@@ -1,0 +1,6 @@
+pub mod SameNet
+pub mod Sorting
+pub mod Agreed
+pub mod Write
+pub mod Carrying
+pub mod Placing
