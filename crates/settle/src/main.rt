@@ -2,12 +2,9 @@
 //! What it writes is made by the crates `report_opening` and `report_pieces`, and what it does next is decided in `report_turns`; here is only the reading
 //! and the writing.
 
-mod input;
-
 ghost use mathlib.Core.Path.{_≡_};
 ghost use lib.ListN.{length};
 ghost use Rattle.output.specs.Program.{Onward};
-use libc::STDOUT_FILENO;
 use output::Next;
 use output::Report;
 use sheet::Sheet;
@@ -40,20 +37,11 @@ fn piece_buffer() -> [u8; Report::PIECE_BYTES]
     [0; Report::PIECE_BYTES]
 }
 
-// Writes a text, and says so on standard error where that fails.
-fn write_text(text: &[u8]) -> bool {
-    let is_written = io::write_all(STDOUT_FILENO, text);
-    if !is_written {
-        os::fail(b"settle: output");
-    }
-    is_written
-}
-
 // Writes the first line.
 fn write_opening(sheet: &[u8]) -> Next {
     let mut out = opening_buffer();
     let written = report_opening::opening(sheet, &mut out);
-    let is_written = write_text(report_turns::written_part(written, &out));
+    let is_written = files::write(b"settle: output", report_turns::written_part(written, &out));
     report_turns::after_opening(written, is_written)
 }
 
@@ -64,7 +52,7 @@ fn write_lines<'a>(sheet: &'a [u8], first: u32, lines: &'a [u8]) -> bool {
     }
     let mut out = piece_buffer();
     let written = report_pieces::piece(sheet, first, lines, &mut out);
-    write_text(report_turns::written_part(written, &out))
+    files::write(b"settle: output", report_turns::written_part(written, &out))
 }
 
 // Reads the lines of a piece of the jobs and writes its text.
@@ -72,7 +60,7 @@ fn write_piece(sheet: &[u8], jobs: i32, first: u32) -> Next
     ensures { λ r. ⌜ Onward first r ⌝ }
 {
     let mut lines = lines_buffer();
-    let size = input::read(jobs, b"settle: jobs", &mut lines);
+    let size = files::read(jobs, b"settle: jobs", &mut lines);
     let is_written = write_lines(sheet, first, &lines[..size]);
     report_turns::after_piece(first, size, is_written)
 }
@@ -90,14 +78,14 @@ fn write_jobs(sheet: &[u8], jobs: i32, start: Next) {
 
 fn main() {
     let mut buffer = sheet_buffer();
-    let net = input::open(b"net", b"settle: net");
-    let size = input::read(net, b"settle: net", &mut buffer);
+    let net = files::open(b"net", b"settle: net");
+    let size = files::read(net, b"settle: net", &mut buffer);
     libc::close(net);
     let next = write_opening(&buffer[..size]);
     let Next::Piece(_) = next else {
         return;
     };
-    let jobs = input::open(b"jobs", b"settle: jobs");
+    let jobs = files::open(b"jobs", b"settle: jobs");
     write_jobs(&buffer[..size], jobs, next);
     libc::close(jobs);
 }

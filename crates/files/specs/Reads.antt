@@ -1,7 +1,7 @@
 -- For the code alone: what one read may answer.
 use Prim.Native.Nat.{ℕ, _≤_}
-use Rattle.settle.specs.declared.input.Got.{Got}
-use Rattle.settle.specs.declared.input.Got.the-variants.{Bytes, Interrupted, Failed}
+use Rattle.files.specs.declared.Got.{Got}
+use Rattle.files.specs.declared.Got.the-variants.{Bytes, Interrupted, Failed}
 
 -- no more bytes than there is room for
 abbrev pub Within : ℕ → Got → Type 0

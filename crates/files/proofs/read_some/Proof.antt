@@ -3,9 +3,9 @@ use Prim.Native.Nat.{_-_, _≤_}
 use mathlib.Core.Path.{_≡_}
 use lib.ListN.{length}
 use borrow.Author.Needs.{needs}
-use Rattle.settle.specs.Input.{Within}
-use Rattle.settle.proofs.input.read_some.Statement.{statement}
-use Rattle.settle.proofs.input.read_some.Tie as tie
+use Rattle.files.specs.Reads.{Within}
+use Rattle.files.proofs.read_some.Statement.{statement}
+use Rattle.files.proofs.read_some.Tie as tie
 
 abbrev Inv-loop : tie.InvT-loop
 Inv-loop file buffer₀ tries got₀ counter₀ buffer got counter = (length buffer ≡ length buffer₀) × Within (length buffer) got × (counter ≤ tries)

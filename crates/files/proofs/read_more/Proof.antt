@@ -1,9 +1,9 @@
 -- `read_more` meets its contract: the bytes that were read are within the buffer.
 use mathlib.Core.Path.{subst}
 use borrow.Author.Needs.{needs}
-use Rattle.settle.specs.Input.{Within}
-use Rattle.settle.proofs.input.read_more.Statement.{statement}
-use Rattle.settle.proofs.input.read_more.Tie as tie
+use Rattle.files.specs.Reads.{Within}
+use Rattle.files.proofs.read_more.Statement.{statement}
+use Rattle.files.proofs.read_more.Tie as tie
 
 -- the read, from the place where its bytes are known
 abbrev read-of : tie.After-count → tie.After-read-some

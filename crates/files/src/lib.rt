@@ -1,22 +1,23 @@
-//! The bytes of a file. What cannot be opened or read is told on standard error, and counts as the end of the file.
+//! The files of a program. What cannot be opened, read or written is told on standard error; what cannot be opened or read counts as the end of the file.
 
 ghost use Prim.Native.Nat.{_≤_};
 ghost use lib.ListN.{length};
 ghost use Rattle.io.specs.Counts.{Counts};
-ghost use Rattle.settle.specs.Input.{Within};
+ghost use Rattle.files.specs.Reads.{Within};
+use libc::STDOUT_FILENO;
 
 // How often a read that a signal interrupted is tried again; what is proved to end cannot try for ever.
 const MOST_TRIES: u32 = 1000;
 
 // What one read answers: so many bytes, none at the end of the file; or why there are none.
-pub(crate) enum Got {
+enum Got {
     Bytes(usize),
     Interrupted,
     Failed,
 }
 
 // Opens a file for reading. What is told where that fails is the program's name and the file's.
-pub(crate) fn open<'a>(name: &'a [u8], told: &'a [u8]) -> i32 {
+pub fn open<'a>(name: &'a [u8], told: &'a [u8]) -> i32 {
     let file = os::open_read(name);
     if file < 0 {
         os::fail(told);
@@ -63,7 +64,7 @@ fn read_more<'a, 'b>(file: i32, told: &'a [u8], buffer: &'b mut [u8]) -> usize
 }
 
 // Reads until the buffer is full, the file ends or a read fails. A file that could not be opened has no bytes.
-pub(crate) fn read<'a, 'b>(file: i32, told: &'a [u8], buffer: &'b mut [u8]) -> usize
+pub fn read<'a, 'b>(file: i32, told: &'a [u8], buffer: &'b mut [u8]) -> usize
     ensures { λ r. ⌜ Counts r (now (buffer .exit)) ⌝ }
 {
     if file < 0 {
@@ -78,4 +79,13 @@ pub(crate) fn read<'a, 'b>(file: i32, told: &'a [u8], buffer: &'b mut [u8]) -> u
         done += more;
     }
     done
+}
+
+// Writes a text to standard output, and answers whether all of it was written; a failure is told.
+pub fn write<'a>(told: &'a [u8], text: &'a [u8]) -> bool {
+    let is_written = io::write_all(STDOUT_FILENO, text);
+    if !is_written {
+        os::fail(told);
+    }
+    is_written
 }

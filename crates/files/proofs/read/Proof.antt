@@ -5,8 +5,8 @@ use lib.ListN.{length}
 use native.Mathlib.Omega.{arith}
 use borrow.Author.Needs.{needs}
 use Rattle.io.proofs.Counting.{counts}
-use Rattle.settle.proofs.input.read.Statement.{statement}
-use Rattle.settle.proofs.input.read.Tie as tie
+use Rattle.files.proofs.read.Statement.{statement}
+use Rattle.files.proofs.read.Tie as tie
 
 abbrev Inv-loop : tie.InvT-loop
 Inv-loop file told buffer₀ done₀ buffer done = (length buffer ≡ length buffer₀) × (done ≤ length buffer)
