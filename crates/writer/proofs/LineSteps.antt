@@ -1,6 +1,6 @@
 -- Lines that are written one after the other to a lent part of just their size.
 use Prim.Native.Nat.{ℕ, suc, _+_, _-_, _*_, _≤_, _<_}
-use native.Mathlib.Nat.{add-zero, add-suc, suc-add, mul-suc, mul-zero, mul-le-mul-left}
+use native.Mathlib.Nat.{add-zero, add-suc, suc-add, mul-suc, mul-zero, mul-one, mul-add, mul-le-mul-left}
 use native.Mathlib.Numerals.{add-one}
 use native.Mathlib.Omega.{arith}
 use mathlib.Core.Path.{_≡_, refl, sym, ap, _∙_}
@@ -40,14 +40,19 @@ module _ (w : Columns) where
   unfolding edgeLines
   edge-alone e = append-nil (writeLine w (edgeLine e))
 
-  pub vertices-more : (xs : List Vertex) (j : ℕ) → j < length xs
-      → vertexLines w 0 (take j xs) ++ writeLine w (vertexLine j (getD xs j noVertex)) ≡ vertexLines w 0 (take (suc j) xs)
+  -- the first j lines, and with the next one after them
+  abbrev pub vertexText : List Vertex → ℕ → Bytes
+  vertexText xs j = vertexLines w 0 (take j xs)
+
+  abbrev pub edgeText : List Edge → ℕ → Bytes
+  edgeText xs i = edgeLines w (take i xs)
+
+  pub vertices-more : (xs : List Vertex) (j : ℕ) → j < length xs → vertexText xs j ++ writeLine w (vertexLine j (getD xs j noVertex)) ≡ vertexText xs (suc j)
   vertices-more xs j h =
       let size : 0 + length (take j xs) ≡ j = omega (arith, length-take-le j xs (omega arith)) in
       sym (rw (take-suc xs j noVertex h, vertices-append 0 (take j xs) (getD xs j noVertex ∷ []), size, vertex-alone))
 
-  pub edges-more : (xs : List Edge) (i : ℕ) → i < length xs
-      → edgeLines w (take i xs) ++ writeLine w (edgeLine (getD xs i noEdge)) ≡ edgeLines w (take (suc i) xs)
+  pub edges-more : (xs : List Edge) (i : ℕ) → i < length xs → edgeText xs i ++ writeLine w (edgeLine (getD xs i noEdge)) ≡ edgeText xs (suc i)
   edges-more xs i h = sym (rw (take-suc xs i noEdge h, edges-append (take i xs) (getD xs i noEdge ∷ []), edge-alone))
 
 -- ---- the loop: text i is that of the first i of so many lines, and the buffer has them
@@ -78,3 +83,11 @@ module _ {w : Columns} {count : ℕ} {text : ℕ → Bytes} where
 
   pub lines-end : {i at : ℕ} {out : Bytes} → LinesWritten w count text i at out → i ≡ count → out ≡ text count
   lines-end {i} {at} {out} l e = all-written (l .front) (l .reached ∙ ap (λ (n : ℕ). lineBytes w * n) e) ∙ ap text e
+
+-- ---- the parts of a sheet: a header, v lines and e lines of L bytes each
+
+pub lines-before-edges : (L v : ℕ) → L * (1 + v) ≡ L + L * v
+lines-before-edges L v = mul-add L 1 v ∙ ap (λ (n : ℕ). n + L * v) (mul-one L)
+
+pub lines-in-all : (L v e : ℕ) → L * (1 + v + e) ≡ L * (1 + v) + L * e
+lines-in-all L v e = mul-add L (1 + v) e

@@ -1,6 +1,6 @@
 -- The sheet of a record part by part, and what the calls that write it answer.
 use Prim.Native.Nat.{ℕ, zero, suc, _+_, _*_, _≤_, _<_}
-use native.Mathlib.Nat.{add-zero, add-suc, suc-add, mul-suc}
+use native.Mathlib.Nat.{mul-le-mul-left}
 use native.Mathlib.Numerals.{add-one}
 use native.Mathlib.Omega.{arith}
 use mathlib.Core.Path.{_≡_, refl, sym, ap, _∙_}
@@ -15,7 +15,7 @@ use Rattle.net.specs.declared.Vertex.{Vertex}
 use Rattle.net.specs.declared.Edge.{Edge}
 use Rattle.net.specs.declared.Net.{Net}
 use Rattle.net.specs.Graph.{noVertex, noEdge}
-use Rattle.sheet.specs.Limits.{Columns, lineBytes}
+use Rattle.sheet.specs.Limits.{Columns, mostColumns, lineBytes, mostLines}
 use Rattle.sheet.specs.Line.{writeLine}
 use Rattle.sheet.specs.Rows.{Row, answer, firstRow, byRows, answered, First, NoRow}
 use Rattle.sheet.specs.declared.Answer.{Answer}
@@ -31,6 +31,7 @@ use Rattle.writer.specs.Agreed.{canonical}
 use Rattle.writer.specs.Write.{Writing, writing, writingRows, writingBy}
 use Rattle.writer.specs.Placing.{Sized, placed}
 use Rattle.writer.proofs.AgreedLaws.{canonical-facts}
+use Rattle.writer.proofs.LineSteps.{lines-before-edges, lines-in-all}
 
 module _ (w : Columns) where
   -- ---- lengths
@@ -46,9 +47,18 @@ module _ (w : Columns) where
         length-edges w _
         ∙ ap (λ (n : ℕ). lineBytes w * n) (length-take-le (N .«edge_count») (N .edges) (omega (arith, s .edges, s .edge-places)))
 
-    pub sheet-length : length (writeIn w N) ≡ lineBytes w + lineBytes w * N .«vertex_count» + lineBytes w * N .«edge_count»
+    pub sheet-length : length (writeIn w N) ≡ lineBytes w * (1 + N .«vertex_count» + N .«edge_count»)
     unfolding writeIn
-    sheet-length = simp (length-append, length-line w (headerLine N), vertices-length, edges-length) (omega arith)
+    sheet-length =
+        let L = lineBytes w in
+        simp (length-append, length-line w (headerLine N), vertices-length, edges-length)
+        (omega (arith, lines-before-edges L (N .«vertex_count»), lines-in-all L (N .«vertex_count») (N .«edge_count»)))
+
+  -- no sheet of any width that is read is longer
+  pub sheet-most : w ≤ mostColumns → (N : Net) → Sized N → lineBytes w * (1 + N .«vertex_count» + N .«edge_count») ≤ lineBytes mostColumns * mostLines
+  sheet-most h N s =
+      let lines : 1 + N .«vertex_count» + N .«edge_count» ≤ mostLines = omega (arith, s .vertices, s .edges) in
+      omega (arith, mul-le-mul-left {m = 1 + N .«vertex_count» + N .«edge_count»} {n = mostLines} (lineBytes w) lines)
 
 pub valid-sized : (N : Net) → valid N ≡ true → Sized N
 valid-sized N v =

@@ -6,6 +6,7 @@ pub mod lines;
 ghost use mathlib.Core.Path.{_≡_};
 ghost use Prim.Native.Nat.{_≤_};
 ghost use Rattle.sheet.specs.Limits.{mostColumns};
+ghost use Rattle.sheet.specs.Rows.{answer};
 ghost use Rattle.sheet.specs.Writing.{writeIn};
 ghost use Rattle.writer.specs.Write.{writing, writingOf, ownWritingOf};
 ghost use Rattle.writer.specs.Placing.{Sized, placed};
@@ -41,7 +42,7 @@ fn place(net: Net, columns: usize, buffer: &mut [u8]) -> Written
 
 // The refusal of what is no record.
 fn bad_record() -> Written
-    ensures { λ r. ⌜ r ≡ record { answer = answer 41 0; length = 0 } ⌝ }
+    ensures { λ r. ⌜ (r .answer ≡ answer 41 0) × (r .length ≡ 0) ⌝ }
 {
     Written {
         answer: Answer {

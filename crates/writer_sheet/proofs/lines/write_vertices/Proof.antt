@@ -1,0 +1,131 @@
+-- `write_vertices` meets its contract: the lines before this one stand at the front of the part.
+use Prim.Native.Nat.{ℕ, _+_, _-_, _≤_, _<_}
+use native.Mathlib.Omega.{arith}
+use mathlib.Core.Path.{_≡_, refl, sym, ap, _∙_}
+use mathlib.Core.List.{_++_}
+use lib.ListN.{length}
+use borrow.Author.Needs.{needs}
+use Rattle.net.specs.Limits.{mostVertices}
+use Rattle.sheet.specs.Limits.{lineBytes}
+use Rattle.sheet.specs.declared.Line.{Line}
+use Rattle.sheet.specs.Line.{writeLine}
+use Rattle.sheet.specs.Writing.{vertexLines}
+use Rattle.sheet.proofs.FrontLaws.{lent-length}
+use Rattle.writer.proofs.LineSteps.{vertexText, vertices-more, LinesWritten, lines-start, lines-room, lines-step, lines-end}
+use Rattle.writer_sheet.proofs.lines.write_vertices.Statement.{statement}
+use Rattle.writer_sheet.proofs.lines.write_vertices.Tie as tie
+
+abbrev Inv-loop : tie.InvT-loop
+Inv-loop out₀ columns net width count at₀ j₀ out at j = LinesWritten columns (net .«vertex_count») (vertexText columns (net .vertices)) j at out
+
+abbrev μ-loop : tie.MeasureT-loop
+μ-loop out₀ columns net width count at₀ j₀ out at j = count - j
+
+-- places, each from a later one: the start, in the loop, the line made, the line written
+abbrev start : tie.In-loop Inv-loop μ-loop → tie.Start Inv-loop μ-loop
+start c = c .before .before .before .before
+
+abbrev in-loop : tie.After-vertex-line Inv-loop μ-loop → tie.In-loop Inv-loop μ-loop
+in-loop c = c .before .before
+
+abbrev line-made : tie.After-write-line Inv-loop μ-loop → tie.After-vertex-line Inv-loop μ-loop
+line-made c = c .before .before
+
+abbrev line-written : tie.After-slice-known2 Inv-loop μ-loop → tie.After-write-line Inv-loop μ-loop
+line-written c = c .before .before
+
+width-is : (c : tie.In-loop Inv-loop μ-loop) → c .before .before .line-bytes .result ≡ lineBytes (start c .args .columns)
+width-is c = c .before .before .line-bytes .ensures
+
+-- the line at hand has its place in the record, and room in the part
+in-record : (c : tie.In-loop Inv-loop μ-loop) → c .before .loop .j < mostVertices
+in-record c = omega (arith, start c .pre .0 .vertices)
+
+within : (c : tie.In-loop Inv-loop μ-loop) → c .before .loop .at + c .before .before .line-bytes .result ≤ length (c .before .loop .out)
+within c =
+    let inv = c .before .loop .inv in
+    omega (arith, width-is c, lines-room inv (c .loop-test .taken), inv .front .kept)
+
+line-bytes-requires : tie.Need-line-bytes-requires Inv-loop μ-loop
+line-bytes-requires c κs = search needs
+
+cast-count : tie.Need-cast-count Inv-loop μ-loop
+cast-count c = search needs
+
+loop-holds : tie.Need-loop-holds Inv-loop μ-loop
+unfolding vertexLines
+loop-holds c = let s = c .before .before in lines-start (s .args .out .now) refl (s .pre .2)
+
+mul-vertex-line : tie.Need-mul-vertex-line Inv-loop μ-loop
+mul-vertex-line c = omega (arith, in-record c)
+
+element-copy-out-vertex-line : tie.Need-element-copy-out-vertex-line Inv-loop μ-loop
+element-copy-out-vertex-line c = omega (arith, in-record c)
+
+vertex-line-requires : tie.Need-vertex-line-requires Inv-loop μ-loop
+vertex-line-requires c κs = in-record (c .before)
+
+add-end : tie.Need-add-end Inv-loop μ-loop
+add-end c = let h = within (in-loop c) in search needs
+
+sub-write-line : tie.Need-sub-write-line Inv-loop μ-loop
+sub-write-line c = search needs
+
+part-write-line-start : tie.Need-part-write-line-start Inv-loop μ-loop
+part-write-line-start c = search needs
+
+part-write-line-end : tie.Need-part-write-line-end Inv-loop μ-loop
+part-write-line-end c = let h = within (in-loop c) in search needs
+
+write-line-requires : tie.Need-write-line-requires Inv-loop μ-loop
+write-line-requires c κs =
+    let turn = in-loop (c .before) in
+    let loop = turn .before .loop in
+    (start turn .pre .1, lent-length (loop .at) _ (loop .out) (omega arith) (within turn) ∙ omega (arith, width-is turn))
+
+add-j : tie.Need-add-j Inv-loop μ-loop
+add-j c = search needs
+
+loop-less : tie.Need-loop-less Inv-loop μ-loop
+loop-less c = search needs
+
+loop-again : tie.Need-loop-again Inv-loop μ-loop
+loop-again c =
+    let written = line-written c in
+    let made = line-made written in
+    let turn = in-loop made in
+    let s = start turn in
+    let w = s .args .columns in
+    let loop = turn .before .loop in
+    let more = vertices-more w (s .args .t3 .vertices) (loop .j) (omega (arith, in-record turn, s .pre .0 .vertex-places)) in
+    lines-step (loop .inv) (turn .loop-test .taken) _ (ap (λ (n : ℕ). loop .at + n) (width-is turn)) _ (written .write-line .ensures)
+    (ap (λ (x : Line). vertexText w (s .args .t3 .vertices) (loop .j) ++ writeLine w x) (made .vertex-line .ensures) ∙ more)
+
+same-length : tie.Need-same-length Inv-loop μ-loop
+same-length c = c .before .loop .inv .front .kept ∙ sym (c .before .before .before .before .pre .2)
+
+returns : tie.Need-returns Inv-loop μ-loop
+returns c = let loop = c .before .loop in lines-end (loop .inv) (omega (arith, loop .inv .some-left))
+
+pub write-vertices-spec : {M : Type 1} → statement M
+write-vertices-spec =
+    tie.close
+    (tie.spec
+    Inv-loop
+    μ-loop
+    line-bytes-requires
+    cast-count
+    loop-holds
+    mul-vertex-line
+    element-copy-out-vertex-line
+    vertex-line-requires
+    add-end
+    sub-write-line
+    part-write-line-start
+    part-write-line-end
+    write-line-requires
+    add-j
+    loop-less
+    loop-again
+    same-length
+    returns)
