@@ -15,7 +15,7 @@ use Rattle.net.specs.declared.Vertex.{Vertex}
 use Rattle.net.specs.declared.Edge.{Edge}
 use Rattle.net.specs.declared.Net.{Net}
 use Rattle.net.specs.Graph.{noVertex, noEdge}
-use Rattle.sheet.specs.Limits.{Columns, mostColumns, lineBytes, mostLines}
+use Rattle.sheet.specs.Limits.{Columns, mostColumns, lineBytes, mostLines, sheetBytes}
 use Rattle.sheet.specs.Line.{writeLine}
 use Rattle.sheet.specs.Rows.{Row, answer, firstRow, byRows, answered, First, NoRow}
 use Rattle.sheet.specs.declared.Answer.{Answer}
@@ -27,10 +27,10 @@ use Rattle.sheet.proofs.WriteLaws.{length-vertices, length-edges}
 use Rattle.sheet.proofs.Validity.{Valid, valid-iff, counts-of}
 use Rattle.ternary.specs.Lists.{Bytes}
 use Rattle.ternary.proofs.Tests.{by-test}
-use Rattle.writer.specs.Agreed.{canonical}
+use Rattle.writer.specs.Agreed.{canonical, canonicalIn}
 use Rattle.writer.specs.Write.{Writing, writing, writingRows, writingBy}
 use Rattle.writer.specs.Placing.{Sized, placed}
-use Rattle.writer.proofs.AgreedLaws.{canonical-facts}
+use Rattle.writer.proofs.AgreedLaws.{canonical-valid}
 use Rattle.writer.proofs.LineSteps.{lines-before-edges, lines-in-all}
 
 module _ (w : Columns) where
@@ -65,6 +65,18 @@ valid-sized N v =
     let f = valid-iff N .0 v in
     record { vertices = counts-of N f .vertices; edges = counts-of N f .edges; vertex-places = f .vertex-places; edge-places = f .edge-places }
 
+-- the sheet in the agreed order is as long as the record's own, and fits where any sheet does
+module _ (w : Columns) (N : Net) (v : valid N ≡ true) where
+  pub canonical-length : length (canonicalIn w N) ≡ lineBytes w * (1 + N .«vertex_count» + N .«edge_count»)
+  unfolding canonicalIn canonical
+  canonical-length = sheet-length w (canonical N) (valid-sized (canonical N) (canonical-valid N v))
+
+  pub canonical-fits : length (canonicalIn w N) ≤ sheetBytes w
+  canonical-fits =
+      let s = valid-sized N v in
+      let lines : 1 + N .«vertex_count» + N .«edge_count» ≤ mostLines = omega (arith, s .vertices, s .edges) in
+      rw canonical-length (mul-le-mul-left {m = 1 + N .«vertex_count» + N .«edge_count»} {n = mostLines} (lineBytes w) lines)
+
 -- ---- a sheet of so many bytes, where it has room and where it has not
 
 module _ (sheet buffer : Bytes) {n : ℕ} (size : length sheet ≡ n) where
@@ -86,6 +98,11 @@ module _ (N : Net) (sheet buffer : Bytes) where
   pub placed-record : valid N ≡ true → placed sheet buffer ≡ writingBy N sheet buffer
   unfolding writingBy writingRows byRows firstRow placed
   placed-record v = rw v (by-test (ltb (length buffer) (length sheet)) (λ t. rw t) (λ t. rw t))
+
+  pub written-record : valid N ≡ true → length sheet ≤ length buffer
+      → writingBy N sheet buffer ≡ writing (answer 0 0) (length sheet) (sheet ++ drop (length sheet) buffer)
+  unfolding writingBy writingRows byRows firstRow
+  written-record v h = rw (v, le-ltb (length buffer) (length sheet) h)
 
   -- ---- by its rows
 
