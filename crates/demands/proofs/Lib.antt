@@ -13,3 +13,4 @@ pub mod Text
 pub mod TextAnswers
 pub mod TextKept
 pub mod Library
+pub mod Writer

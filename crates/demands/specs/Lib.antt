@@ -5,3 +5,4 @@ pub mod Kept
 pub mod Library
 pub mod Instance
 pub mod Text
+pub mod Writer
