@@ -35,8 +35,8 @@ pub record WritingAnswers (N : Net) (sheet buffer : Bytes) (given : Writing) : T
 abbrev pub bytesOf : Writing → Bytes
 bytesOf W = take (W .length) (W .buffer)
 
--- two records that no call tells apart: the same letters and key nodes, in every state the same excitation of every storage vertex, the same places where
--- C1 to C3 are broken and the same verdict, the same passes, and the same from settling, refusals included
+-- two records that behave alike: the same letters and key nodes, in every state the same excitation of every storage vertex, C1 to C3 broken at the same
+-- places if at all and the same verdict, the same passes, and the same from settling, refusals included
 pub record BehavesAs (M N : Net) : Type 0 where
   pub letters : M .«letter_count» ≡ N .«letter_count»
   pub key-nodes : keys M ≡ keys N
