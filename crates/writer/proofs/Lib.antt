@@ -10,3 +10,4 @@ pub mod AgreedLaws
 pub mod CarryingLaws
 pub mod LineSteps
 pub mod WriteLaws
+pub mod Examples
