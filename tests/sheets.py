@@ -78,6 +78,12 @@ LATCH = [(2, 5, P, letter(1)), (5, 3, P, vertex(4)), (3, 1, N, letter(1)), (3, 1
          (2, 6, P, letter(2)), (6, 4, P, vertex(3)), (4, 1, N, letter(2)), (4, 1, N, vertex(3))]
 NOR_LATCH = sheet(2, STORED, LATCH)
 
+# The same net by another draughtsman: both gates at once, from vertex 1 up to vertex 2.
+NOR_LATCH_FROM_0 = sheet(
+    2, STORED,
+    [(1, 4, N, vertex(3)), (1, 3, N, vertex(4)), (4, 1, N, letter(2)), (1, 3, N, letter(1)),
+     (4, 6, P, vertex(3)), (3, 5, P, vertex(4)), (6, 2, P, letter(2)), (5, 2, P, letter(1))])
+
 # Oscillator, figure 3.4(a): key node and output 3.
 OSCILLATOR = sheet(0, [ZERO, ONE, OUTPUT], inverter(3, vertex(3)))
 
