@@ -81,8 +81,27 @@ NOR_LATCH = sheet(2, STORED, LATCH)
 # The same net by another draughtsman: both gates at once, from vertex 1 up to vertex 2.
 NOR_LATCH_FROM_0 = sheet(
     2, STORED,
-    [(1, 4, N, vertex(3)), (1, 3, N, vertex(4)), (4, 1, N, letter(2)), (1, 3, N, letter(1)),
+    [(1, 4, N, vertex(3)), (1, 3, N, vertex(4)), (1, 4, N, letter(2)), (1, 3, N, letter(1)),
      (4, 6, P, vertex(3)), (3, 5, P, vertex(4)), (6, 2, P, letter(2)), (5, 2, P, letter(1))])
+
+# Both in the agreed order of request C-11, by hand.
+NOR_LATCH_AGREED = b"""\
+   1   6   8   2   1
+   2   1   0   0   0
+   2   2   0   1   0
+   2   3   2   0   0
+   2   4   2   0   0
+   2   5   1   0   0
+   2   6   1   0   0
+   3   1   3   0  11
+   3   1   3   0 104
+   3   1   4   0  12
+   3   1   4   0 103
+   3   2   5   1  11
+   3   2   6   1  12
+   3   3   5   1 104
+   3   4   6   1 103
+"""
 
 # Oscillator, figure 3.4(a): key node and output 3.
 OSCILLATOR = sheet(0, [ZERO, ONE, OUTPUT], inverter(3, vertex(3)))

@@ -203,24 +203,6 @@ written(b"   1   4   4   1   1\n" + KIND_LINES + TWICE[:21] + TWICE[:42] + TWICE
 
 # The NOR latch by several draughtsmen.
 
-NOR_LATCH_AGREED = b"""\
-   1   6   8   2   1
-   2   1   0   0   0
-   2   2   0   1   0
-   2   3   2   0   0
-   2   4   2   0   0
-   2   5   1   0   0
-   2   6   1   0   0
-   3   1   3   0  11
-   3   1   3   0 104
-   3   1   4   0  12
-   3   1   4   0 103
-   3   2   5   1  11
-   3   2   6   1  12
-   3   3   5   1 104
-   3   4   6   1 103
-"""
-
 net("NOR latch, figure 3.2, gate by gate from 1 down to 0", NOR_LATCH)
 written(NOR_LATCH_AGREED, "turning and order", beyond=4)
 written(NOR_LATCH, "own order: gate by gate", OWN)
