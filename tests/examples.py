@@ -1,6 +1,6 @@
 #!/usr/bin/env python3
-"""The second check of examples/: that each net is the one that the other tests use, and that each line of `expected` is what the model of the
-definitions gives. The lines are worked out by hand in the folders' READMEs; none is taken from the program, which examples/run compares. The lines
+"""The second check of examples/: that each net is the one that the other tests use, and that each line of `expected` is what the models of the
+definitions give. The lines are worked out by hand in the folders' READMEs; none is taken from the programs, which examples/run compares. The lines
 and jobs that a README explains must be all of those in the files.
 """
 import pathlib
@@ -9,6 +9,7 @@ import sys
 
 import sheets
 import settle_model
+from writer_model import Record
 
 EXAMPLES = pathlib.Path(__file__).parent.parent / "examples"
 NETS = {
@@ -18,6 +19,8 @@ NETS = {
     "d-flip-flop": sheets.FLIP_FLOP,
     "tally": sheets.TALLY,
 }
+# The nets of the folders that have several drawings of one net.
+DRAWINGS = {"two-drawings": {"left": sheets.NOR_LATCH, "right": sheets.NOR_LATCH_FROM_0}}
 
 
 def text(sheet, jobs):
@@ -51,9 +54,16 @@ def agrees(folder):
     return read(folder, "net") == NETS[folder] and explained(folder) == (expected, jobs) and expected == text(NETS[folder], jobs)
 
 
+def are_one(folder):
+    """Is each drawing's sheet in the agreed order the one that is expected?"""
+    nets, expected = DRAWINGS[folder], read(folder, "expected")
+    drawn = {f.name: (f / "net").read_bytes() for f in (EXAMPLES / folder).iterdir() if f.is_dir()}
+    return drawn == nets and explained(folder) == (expected, b"") and all(Record(net).agreed() == expected for net in nets.values())
+
+
 def main():
     folders = sorted(f.name for f in EXAMPLES.iterdir() if f.is_dir())
-    answers = [folder in NETS and agrees(folder) for folder in folders]
+    answers = [agrees(folder) if folder in NETS else folder in DRAWINGS and are_one(folder) for folder in folders]
     for folder, answer in zip(folders, answers):
         print(folder + (": as in the model" if answer else ": DIFFERS"))
     sys.exit(0 if all(answers) else 1)
