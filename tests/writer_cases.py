@@ -3,7 +3,8 @@
 
 Each case has a note: the words of C-11 that decide it (turning: the lower end of an edge comes first; order: low end, high end, form, symbol; vertices: as
 numbered; equal bytes: for records that differ in the order of edges and of ends alone; once more: reading what was written and writing it; length: the
-answer's last number; beyond: bytes that are not written stay; row 51: the buffer is shorter than the sheet), or document 01's row. Running this file writes
+answer's last number; beyond: bytes that are not written stay; row 51: the buffer is shorter than the sheet), or document 01's row; for the text of the
+program `write_net` also docs/DECISIONS.md, point 99. Running this file writes
 the input and the expected output of the test program `writer_cases`. Numbers and sheets are worked out here by hand, those at the limits by how the
 drawings are made; writer_model.py then works each of them out from the definitions, and a difference stops the run. None is taken from the program.
 
@@ -11,7 +12,8 @@ The kinds of cases, and what the program prints for each before the note:
   N  a sheet, kept for the cases that follow it: the reader's number and place;
   W  the record written in the agreed order: number, place and length, and from the next line on the whole lent buffer, which held question marks;
   O  the same in the record's own order;
-  A  the same of the record that is read back from what was written in the agreed order.
+  A  the same of the record that is read back from what was written in the agreed order;
+  T  the text of the program for the sheet: how many bytes it has, and from the next line on these.
 
 The numbers of a case are the size of the lent buffer, and what is altered in the record before: a part of it, the place, counted from 0, and the value.
 """
@@ -31,11 +33,13 @@ LABEL, SYMBOL, VERTEX_COUNT, EDGE_COUNT, LETTER_COUNT = range(1, 6)
 EMPTY = Record(line(0, 0, 0, 0, 0))
 
 RECORD = EMPTY  # the model of the sheet in force
+ANSWER = None  # and the number and place of its refusal
 
 
 def net(note, data, refusal=0, place=0):
-    global RECORD
+    global RECORD, ANSWER
     RECORD = EMPTY if refusal else Record(data)
+    ANSWER = (refusal, place) if refusal else None
     assert RECORD.is_accepted() == (refusal == 0), note
     case(b"N", field(refusal) + field(place), note, data=data)
 
@@ -80,6 +84,12 @@ def refused(number, note, size, kind=AGREED, **alteration):
     writing(kind, number, b"", note, size, **alteration)
 
 
+def program_text(expected, note):
+    """The program prints the sheet in the agreed order, or the number and the place between two zeros."""
+    assert expected == (field(0) + field(ANSWER[0]) + field(ANSWER[1]) + field(0) + b"\n" if ANSWER else RECORD.agreed()), note
+    case(b"T", field(len(expected)) + b"\n" + expected, note)
+
+
 # Document 01's net, drawn from the top to the bottom.
 
 WORKED_AGREED = b"""\
@@ -104,6 +114,7 @@ refused(51, "row 51: one byte", 1)
 refused(51, "row 51: no byte", 0)
 written(WORKED_AGREED, "once more: the same bytes", AGAIN, beyond=3)
 written(WORKED, "own order: the bytes that were read", OWN)
+program_text(WORKED_AGREED, "the text is the sheet in the agreed order, 189 bytes")
 written(WORKED, "own order, beyond: the last ten bytes of 199 stay", OWN, beyond=10)
 refused(51, "own order, row 51: 188 bytes are one too few, and none is written", 188, OWN)
 refused(51, "own order, row 51: no byte", 0, OWN)
@@ -209,6 +220,7 @@ written(NOR_LATCH, "own order: gate by gate", OWN)
 net("the same by a second draughtsman, both sides at once from 0 up to 1", NOR_LATCH_FROM_0)
 written(NOR_LATCH_AGREED, "equal bytes: edges and ends in another order", beyond=4)
 written(NOR_LATCH_FROM_0, "own order: from 0 up to 1, other bytes", OWN)
+program_text(NOR_LATCH_AGREED, "the text is the sheet in the agreed order")
 written(NOR_LATCH_AGREED, "once more: the same bytes", AGAIN)
 net("the same by a third, the first one's lines from the last to the first", sheet(2, STORED, LATCH[::-1]))
 written(NOR_LATCH_AGREED, "equal bytes: edges in another order", beyond=4)
@@ -229,8 +241,16 @@ refused(41, "row 41 comes before row 51", 0)
 refused(41, "own order: row 41", 200, OWN)
 refused(41, "own order: row 41 comes before row 51", 0, OWN)
 refused(41, "once more: nothing was written, and no sheet has no byte", 50, AGAIN)
+program_text(b"   0  16   9   0\n", "the text is one line: 0, row 16, its place line 9, and 0")
 net("no byte: row 11, the empty record", b"", 11)
 refused(41, "row 41: the empty record", 21)
+program_text(b"   0  11   0   0\n", "a missing file reads as empty: row 11, place 0")
+net("a byte more than any sheet has", b"x" * 6070, 11)
+program_text(b"   0  11   0   0\n", "row 11, place 0")
+net("a header of edition 2", line(1, 1, 0, 0, 2) + line(2, 1, 0, 0, 0), 13, 1)
+program_text(b"   0  13   1   0\n", "row 13, place line 1")
+net("thirteen key nodes", sheet(0, [ZERO] + [STORAGE] * 13, [(1, v, N, vertex(v)) for v in range(2, 15)]), 22, 14)
+program_text(b"   0  22  14   0\n", "row 22, its place the vertex of the thirteenth key node")
 
 # Document 01's net with one number of the record altered after reading.
 

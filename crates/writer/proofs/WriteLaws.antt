@@ -29,7 +29,7 @@ use Rattle.ternary.specs.Lists.{Bytes}
 use Rattle.ternary.proofs.Tests.{by-test}
 use Rattle.writer.specs.Agreed.{canonical, canonicalIn}
 use Rattle.writer.specs.Write.{Writing, writing, writingRows, writingBy}
-use Rattle.writer.specs.Placing.{Sized, placed}
+use Rattle.writer.specs.Fronts.{Sized, atFront}
 use Rattle.writer.proofs.AgreedLaws.{canonical-valid}
 use Rattle.writer.proofs.LineSteps.{lines-before-edges, lines-in-all}
 
@@ -80,13 +80,13 @@ module _ (w : Columns) (N : Net) (v : valid N ≡ true) where
 -- ---- a sheet of so many bytes, where it has room and where it has not
 
 module _ (sheet buffer : Bytes) {n : ℕ} (size : length sheet ≡ n) where
-  pub no-room : length buffer < n → writing (answer 51 0) 0 buffer ≡ placed sheet buffer
-  unfolding placed
-  no-room h = rw (size, lt-ltb (length buffer) n h)
+  pub front-short : length buffer < n → writing (answer 51 0) 0 buffer ≡ atFront sheet buffer
+  unfolding atFront
+  front-short h = rw (size, lt-ltb (length buffer) n h)
 
-  pub room : n ≤ length buffer → {part : Bytes} → part ≡ sheet → writing (answer 0 0) n (part ++ drop n buffer) ≡ placed sheet buffer
-  unfolding placed
-  room h p = rw (size, le-ltb (length buffer) n h, p)
+  pub front-fits : n ≤ length buffer → {part : Bytes} → part ≡ sheet → writing (answer 0 0) n (part ++ drop n buffer) ≡ atFront sheet buffer
+  unfolding atFront
+  front-fits h p = rw (size, le-ltb (length buffer) n h, p)
 
 -- ---- the calls, for a sheet of the record
 
@@ -95,9 +95,9 @@ module _ (N : Net) (sheet buffer : Bytes) where
   unfolding writingBy writingRows byRows firstRow
   refused-record e = rw e
 
-  pub placed-record : valid N ≡ true → placed sheet buffer ≡ writingBy N sheet buffer
-  unfolding writingBy writingRows byRows firstRow placed
-  placed-record v = rw v (by-test (ltb (length buffer) (length sheet)) (λ t. rw t) (λ t. rw t))
+  pub front-record : valid N ≡ true → atFront sheet buffer ≡ writingBy N sheet buffer
+  unfolding writingBy writingRows byRows firstRow atFront
+  front-record v = rw v (by-test (ltb (length buffer) (length sheet)) (λ t. rw t) (λ t. rw t))
 
   pub written-record : valid N ≡ true → length sheet ≤ length buffer
       → writingBy N sheet buffer ≡ writing (answer 0 0) (length sheet) (sheet ++ drop (length sheet) buffer)

@@ -3,4 +3,4 @@ pub mod Sorting
 pub mod Agreed
 pub mod Write
 pub mod Carrying
-pub mod Placing
+pub mod Fronts

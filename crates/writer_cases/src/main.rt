@@ -1,5 +1,5 @@
 //! Runs the cases of standard input through the writer of a record's sheet, in the agreed order and in the record's own, and prints each answer with the
-//! whole lent buffer before the case's note. tests/writer_cases.py tells the numbers of a case and where each expected answer comes from.
+//! whole lent buffer before the case's note; and through the text of the program `write_net`. tests/writer_cases.py tells the numbers of a case and where each expected answer comes from.
 
 ghost use Prim.Native.Nat.{_<_};
 ghost use mathlib.Core.Path.{_≡_};
@@ -85,6 +85,15 @@ fn print_agreed(net: Net, buffer: &mut [u8]) {
 fn print_own(net: Net, buffer: &mut [u8]) {
     let written = writer_sheet::write_in_own_order(net, buffer);
     print_written(written, buffer);
+}
+
+// The text of the program for the bytes of a sheet: how many bytes it has; then, from the next line on, these.
+fn print_text(sheet: &[u8]) {
+    let mut buffer = sheet_buffer();
+    let length = writer_text::text(sheet, &mut buffer);
+    print_column(length as u64);
+    io::write_all(STDOUT_FILENO, b"\n");
+    io::write_all(STDOUT_FILENO, &buffer[..length]);
 }
 
 // The record that is read from what is written in the agreed order.
@@ -187,10 +196,10 @@ fn print_answer(cases: &[u8], at: usize, sheet: &[u8])
     requires { ⌜ at < length (now cases) ⌝ }
 {
     let reading = reader::read(sheet);
-    if cases[at] == b'N' {
-        print_place(reading.answer);
-    } else {
-        run_writing(cases, at, reading.net);
+    match cases[at] {
+        b'N' => print_place(reading.answer),
+        b'T' => print_text(sheet),
+        _ => run_writing(cases, at, reading.net),
     }
 }
 

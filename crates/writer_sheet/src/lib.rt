@@ -9,16 +9,16 @@ ghost use Rattle.sheet.specs.Limits.{mostColumns};
 ghost use Rattle.sheet.specs.Rows.{answer};
 ghost use Rattle.sheet.specs.Writing.{writeIn};
 ghost use Rattle.writer.specs.Write.{writing, writingOf, ownWritingOf};
-ghost use Rattle.writer.specs.Placing.{Sized, placed};
+ghost use Rattle.writer.specs.Fronts.{Sized, atFront};
 use net::Net;
 use sheet::Answer;
 use sheet::Sheet;
 use writer::Written;
 
 // The sheet of a record that was tested, to the front of the buffer, if it has room.
-fn place(net: Net, columns: usize, buffer: &mut [u8]) -> Written
+fn put_front(net: Net, columns: usize, buffer: &mut [u8]) -> Written
     requires { ⌜ Sized net × (columns ≤ mostColumns) ⌝ }
-    ensures { λ r. ⌜ writing (r .answer) (r .length) (now (buffer .exit)) ≡ placed (writeIn columns net) (now (buffer .entry)) ⌝ }
+    ensures { λ r. ⌜ writing (r .answer) (r .length) (now (buffer .exit)) ≡ atFront (writeIn columns net) (now (buffer .entry)) ⌝ }
 {
     let length = lines::sheet_bytes(net, columns);
     if buffer.len() < length {
@@ -61,7 +61,7 @@ pub fn write(net: Net, buffer: &mut [u8]) -> Written
         return bad_record();
     }
     let ordered = writer_order::ordered(net);
-    place(ordered, Sheet::FIELD_WIDTH, buffer)
+    put_front(ordered, Sheet::FIELD_WIDTH, buffer)
 }
 
 // Any record in its own order, to the front of any buffer.
@@ -71,5 +71,5 @@ pub fn write_in_own_order(net: Net, buffer: &mut [u8]) -> Written
     if !record::is_record(net) {
         return bad_record();
     }
-    place(net, Sheet::FIELD_WIDTH, buffer)
+    put_front(net, Sheet::FIELD_WIDTH, buffer)
 }

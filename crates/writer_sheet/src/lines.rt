@@ -7,7 +7,7 @@ ghost use lib.ListN.{length, take};
 ghost use Rattle.net.specs.Limits.{mostVertices};
 ghost use Rattle.sheet.specs.Limits.{mostColumns, lineBytes};
 ghost use Rattle.sheet.specs.Writing.{headerLine, vertexLine, edgeLine, vertexLines, edgeLines, writeIn};
-ghost use Rattle.writer.specs.Placing.{Sized};
+ghost use Rattle.writer.specs.Fronts.{Sized};
 use net::Edge;
 use net::Net;
 use net::Vertex;

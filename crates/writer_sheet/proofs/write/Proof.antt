@@ -1,4 +1,4 @@
--- `write` meets its contract: the record is tested, ordered and placed.
+-- `write` meets its contract: the record is tested, ordered and atFront.
 use native.Mathlib.Omega.{arith}
 use mathlib.Core.Path.{_≡_, sym, ap, subst, _∙_}
 use mathlib.Core.Bool.{true}
@@ -9,20 +9,20 @@ use Rattle.sheet.specs.Limits.{fieldWidth}
 use Rattle.sheet.specs.Writing.{writeIn}
 use Rattle.sheet.specs.Valid.{valid}
 use Rattle.writer.specs.Agreed.{canonicalIn}
-use Rattle.writer.specs.Placing.{Sized, placed}
+use Rattle.writer.specs.Fronts.{Sized, atFront}
 use Rattle.writer.proofs.AgreedLaws.{canonical-valid}
-use Rattle.writer.proofs.WriteLaws.{valid-sized, refused-record, placed-record}
+use Rattle.writer.proofs.WriteLaws.{valid-sized, refused-record, front-record}
 use Rattle.writer_sheet.proofs.write.Statement.{statement}
 use Rattle.writer_sheet.proofs.write.Tie as tie
 
--- places, each from a later one: the start, past the test of the record, the record ordered, the sheet placed
+-- places, each from a later one: the start, past the test of the record, the record ordered, the sheet atFront
 abbrev start : tie.After-is-record → tie.Start
 start c = c .before .before
 
 abbrev past-record : tie.After-ordered → tie.Else1
 past-record c = c .before
 
-abbrev ordered : tie.After-place → tie.After-ordered
+abbrev ordered : tie.After-put-front → tie.After-ordered
 ordered c = c .before .before
 
 -- what was tested is a record
@@ -45,8 +45,8 @@ returns c =
 ordered-requires : tie.Need-ordered-requires
 ordered-requires c κs = let z = valid-sized _ (is-valid c) in (z .edges, z .edge-places)
 
-place-requires : tie.Need-place-requires
-place-requires c κs =
+put-front-requires : tie.Need-put-front-requires
+put-front-requires c κs =
     let o = c .before in
     (subst Sized (sym (o .ordered .ensures)) (valid-sized _ (canonical-valid _ (is-valid (past-record o)))), omega arith)
 
@@ -59,11 +59,11 @@ returns-2 c =
     let p = c .before .before in
     let o = ordered p in
     let s = start (past-record o .before) in
-    p .place .ensures
-    ∙ ap (λ (N : Net). placed (writeIn fieldWidth N) (s .args .buffer .now)) (o .ordered .ensures)
-    ∙ placed-record (s .args .net) _ (s .args .buffer .now) (is-valid (past-record o))
+    p .put-front .ensures
+    ∙ ap (λ (N : Net). atFront (writeIn fieldWidth N) (s .args .buffer .now)) (o .ordered .ensures)
+    ∙ front-record (s .args .net) _ (s .args .buffer .now) (is-valid (past-record o))
 
 pub write-spec : {M : Type 1} → statement M
 write-spec =
     tie.close
-    (tie.spec is-record-requires bad-record-requires returns ordered-requires place-requires same-length returns-2)
+    (tie.spec is-record-requires bad-record-requires returns ordered-requires put-front-requires same-length returns-2)

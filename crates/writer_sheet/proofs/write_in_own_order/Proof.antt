@@ -1,11 +1,11 @@
--- `write_in_own_order` meets its contract: the record is tested and placed.
+-- `write_in_own_order` meets its contract: the record is tested and atFront.
 use native.Mathlib.Omega.{arith}
 use mathlib.Core.Path.{_≡_, sym, _∙_}
 use mathlib.Core.Bool.{true}
 use borrow.Author.Needs.{needs}
 use borrow.Author.Tests.{not-true, not-false}
 use Rattle.sheet.specs.Valid.{valid}
-use Rattle.writer.proofs.WriteLaws.{valid-sized, refused-record, placed-record}
+use Rattle.writer.proofs.WriteLaws.{valid-sized, refused-record, front-record}
 use Rattle.writer_sheet.proofs.write_in_own_order.Statement.{statement}
 use Rattle.writer_sheet.proofs.write_in_own_order.Tie as tie
 
@@ -13,7 +13,7 @@ use Rattle.writer_sheet.proofs.write_in_own_order.Tie as tie
 abbrev start : tie.After-is-record → tie.Start
 start c = c .before .before
 
-abbrev past-record : tie.After-place → tie.Else1
+abbrev past-record : tie.After-put-front → tie.Else1
 past-record c = c .before .before
 
 -- what was tested is a record
@@ -33,8 +33,8 @@ returns c =
     rw (c .bad-record .ensures .0, c .bad-record .ensures .1)
     (refused-record (s .args .net) _ (s .args .buffer .now) (sym (t .before .is-record .ensures) ∙ not-true _ (t .if1 .taken)))
 
-place-requires : tie.Need-place-requires
-place-requires c κs = (valid-sized _ (is-valid (c .before)), omega arith)
+put-front-requires : tie.Need-put-front-requires
+put-front-requires c κs = (valid-sized _ (is-valid (c .before)), omega arith)
 
 same-length : tie.Need-same-length
 same-length c = search needs
@@ -43,9 +43,9 @@ returns-2 : tie.Need-returns-2
 returns-2 c =
     let p = c .before .before in
     let s = start (past-record p .before) in
-    p .place .ensures ∙ placed-record (s .args .net) _ (s .args .buffer .now) (is-valid (past-record p))
+    p .put-front .ensures ∙ front-record (s .args .net) _ (s .args .buffer .now) (is-valid (past-record p))
 
 pub write-in-own-order-spec : {M : Type 1} → statement M
 write-in-own-order-spec =
     tie.close
-    (tie.spec is-record-requires bad-record-requires returns place-requires same-length returns-2)
+    (tie.spec is-record-requires bad-record-requires returns put-front-requires same-length returns-2)

@@ -19,8 +19,8 @@ pub record Sized (N : Net) : Type 0 where
   pub edge-places : length (N .edges) ≡ mostEdges
 
 -- the sheet at the buffer's front, or 51 where it has no room
-unfoldable pub placed : Bytes → Bytes → Writing
-placed sheet buffer =
+unfoldable pub atFront : Bytes → Bytes → Writing
+atFront sheet buffer =
     cond (ltb (length buffer) (length sheet))
     (writing (answer 51 0) 0 buffer)
     (writing (answer 0 0) (length sheet) (sheet ++ drop (length sheet) buffer))

@@ -1,4 +1,4 @@
--- `place` meets its contract: without room nothing is written, else the sheet stands at the front.
+-- `put_front` meets its contract: without room nothing is written, else the sheet stands at the front.
 use Prim.Native.Nat.{_≤_}
 use native.Mathlib.Omega.{arith}
 use mathlib.Core.Path.{_≡_, sym, _∙_}
@@ -7,9 +7,9 @@ use lib.Seq.{length-take-le}
 use borrow.Author.Needs.{needs}
 use Rattle.sheet.specs.Writing.{writeIn}
 use Rattle.sheet.specs.Limits.{lineBytes, mostColumns, mostLines}
-use Rattle.writer.proofs.WriteLaws.{sheet-length, sheet-most, no-room, room}
-use Rattle.writer_sheet.proofs.place.Statement.{statement}
-use Rattle.writer_sheet.proofs.place.Tie as tie
+use Rattle.writer.proofs.WriteLaws.{sheet-length, sheet-most, front-short, front-fits}
+use Rattle.writer_sheet.proofs.put_front.Statement.{statement}
+use Rattle.writer_sheet.proofs.put_front.Tie as tie
 
 -- places, each from a later one: the start, the length known, the sheet written
 abbrev start : tie.After-sheet-bytes → tie.Start
@@ -28,7 +28,7 @@ sheet-bytes-requires : tie.Need-sheet-bytes-requires
 sheet-bytes-requires c κs = search needs
 
 returns : tie.Need-returns
-returns c = let m = c .before in no-room _ (start m .args .buffer .now) (sheet-size m) (c .if1 .taken)
+returns c = let m = c .before in front-short _ (start m .args .buffer .now) (sheet-size m) (c .if1 .taken)
 
 slice-relend-prefix-write-sheet : tie.Need-slice-relend-prefix-write-sheet
 slice-relend-prefix-write-sheet c = search needs
@@ -53,10 +53,10 @@ returns-2 : tie.Need-returns-2
 returns-2 c =
     let w = written c in
     let m = measured w in
-    room _ (start m .args .buffer .now) (sheet-size m) (omega arith) (w .write-sheet .ensures)
+    front-fits _ (start m .args .buffer .now) (sheet-size m) (omega arith) (w .write-sheet .ensures)
 
-pub place-spec : {M : Type 1} → statement M
-place-spec =
+pub put-front-spec : {M : Type 1} → statement M
+put-front-spec =
     tie.close
     (tie.spec
     sheet-bytes-requires
