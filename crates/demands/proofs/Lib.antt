@@ -13,4 +13,5 @@ pub mod Text
 pub mod TextAnswers
 pub mod TextKept
 pub mod Library
+pub mod Behaviour
 pub mod Writer

@@ -1,23 +1,18 @@
 -- Writing a record's sheet: demand 1 of both calls and of the program's text, and what holds of what was written.
-use Prim.Native.Nat.{ℕ, _^_, _≤_}
+use Prim.Native.Nat.{_*_, _≤_}
 use native.Mathlib.Omega.{arith}
-use mathlib.Core.Path.{_≡_, refl, sym, ap, subst, _∙_}
-use mathlib.Core.Bool.{Bool, true, not, _&&_, _||_}
+use mathlib.Core.Path.{_≡_, refl, sym, ap, ap₂, subst, _∙_}
+use mathlib.Core.Bool.{true}
 use mathlib.Core.Logic.{_↔_}
-use mathlib.Core.List.{[], _∷_, _++_}
-use mathlib.Core.Option.{Option}
-use lib.Dec.{ltb}
+use mathlib.Core.List.{_++_}
 use lib.ListN.{length, take, drop}
 use lib.Seq.{take-at}
 use borrow.Author.Tests.{not-false}
 use Rattle.ternary.specs.Lists.{Bytes}
-use Rattle.ternary.specs.Bits.{InputState, KeyState}
-use Rattle.ternary.specs.Passes.{Settled}
 use Rattle.net.specs.declared.Net.{Net}
-use Rattle.net.specs.WellFormed.{placeC1, testC2, placeC3}
-use Rattle.sheet.specs.Limits.{fieldWidth}
+use Rattle.sheet.specs.Limits.{fieldWidth, lineWidth}
 use Rattle.sheet.specs.declared.Reading.{Reading}
-use Rattle.sheet.specs.Rows.{row, when, byRows, NoRow}
+use Rattle.sheet.specs.Rows.{NoRow}
 use Rattle.sheet.specs.Rows.NoRow.{next}
 use Rattle.sheet.specs.Record.{accepted}
 use Rattle.sheet.specs.SheetRows.{netOf, sheetRows}
@@ -28,18 +23,18 @@ use Rattle.sheet.proofs.RowLaws.{when-none, by-rows-fit, by-rows-first}
 use Rattle.sheet.proofs.SheetRowLaws.{sheet-accepted, read-then}
 use Rattle.sheet.proofs.ReadLaws.{read-valid}
 use Rattle.sheet.proofs.WriteLaws.{read-write-sheet}
-use Rattle.soundness.specs.Verdict.{verdictRows, verdictOf}
-use Rattle.settlements.specs.Settle.{Settlement, settling, settlement, unsettled, written, settleUnder, settleRows, settleOf}
-use Rattle.output.specs.Output.{firstLine}
+use Rattle.settlements.specs.Settle.{written}
+use Rattle.output.specs.Limits.{mostJobs}
+use Rattle.output.specs.Output.{firstLine, judgedOf, openingText, jobsText, outputOf}
 use Rattle.writer.specs.SameNet.{SameNet}
 use Rattle.writer.specs.Agreed.{canonical, canonicalSheet}
-use Rattle.writer.specs.Write.{Writing, writing, writingRows, writingBy, writingOf, ownWritingOf}
-use Rattle.writer.proofs.SameGraph.{same-among, same-storage, same-keys, same-key-count, same-excitation}
-use Rattle.writer.proofs.SameConditions.{same-stable, same-place-c1, same-test-c2, same-place-c3, same-settled}
+use Rattle.writer.specs.Write.{Writing, writingRows, writingBy, writingOf, ownWritingOf}
+use Rattle.writer.proofs.SameGraph.{same-key-count}
 use Rattle.writer.proofs.AgreedLaws.{canonical-same, canonical-ordered, canonical-valid, canonical-only, read-canonical, sheets-equal, written-again}
 use Rattle.writer.proofs.WriteLaws.{writing-zero, writing-number, writing-refused, writing-fit, written-record}
 use Rattle.writer_text.specs.Text.{textOf}
-use Rattle.demands.specs.Writer.{WritingAnswers, bytesOf, BehavesAs, WritingKept, NetTextAnswers}
+use Rattle.demands.specs.Writer.{WritingAnswers, bytesOf, WritingKept, NetTextAnswers}
+use Rattle.demands.proofs.Behaviour.{same-behaviour, same-net-text}
 
 -- ---- demand 1
 
@@ -55,47 +50,6 @@ demand1-writing N buffer = by-its-rows N (canonicalSheet N) buffer
 
 pub demand1-own-writing : (N : Net) (buffer : Bytes) → WritingAnswers N (writeSheet N) buffer (ownWritingOf N buffer)
 demand1-own-writing N buffer = by-its-rows N (writeSheet N) buffer
-
--- ---- records of the same net
-
-module _ {M N : Net} (s : SameNet M N) (valid-m : valid M ≡ true) (valid-n : valid N ≡ true) where
-  both-valid : valid M ≡ valid N
-  both-valid = valid-m ∙ sym valid-n
-
-  same-verdict : verdictOf M ≡ verdictOf N
-  unfolding verdictOf verdictRows
-  same-verdict = rw (both-valid, same-place-c1 s, same-test-c2 s, same-place-c3 s)
-
-  same-settling : (A B : InputState) (q : KeyState) (R T : Bytes) → settleOf M A B q R T ≡ settleOf N A B q R T
-  unfolding settleOf settleRows settleUnder written
-  same-settling A B q R T =
-      let by : Bool → Option ℕ → ℕ → ℕ → Bool → Settled → Settlement =
-      λ v c1 letters h rest p.
-      byRows
-      (row 41 (when (not v))
-      ∷ row 31 c1
-      ∷ row 42 (when (not (ltb A (2 ^ letters) && ltb B (2 ^ letters))))
-      ∷ row 43 (when (not (ltb q (2 ^ h))))
-      ∷ row 45 (when (ltb (length R) h || ltb (length T) h))
-      ∷ row 44 (when (not rest))
-      ∷ [])
-      (settlement (settling 0 0 (p .firstSteps) (p .secondSteps)) (p .r ++ drop h R) (p .t ++ drop h T))
-      (λ a. unsettled a R T) in
-      λ i. by (both-valid i) (same-place-c1 s i) (s .letter-count i) (same-key-count s i) (same-stable s A q i) (same-settled s A B q i)
-
-  pub same-behaviour : BehavesAs M N
-  same-behaviour = record {
-    letters = s .letter-count;
-    key-nodes = same-keys s;
-    storage = same-storage (same-among s);
-    excitations = same-excitation s;
-    c1 = same-place-c1 s;
-    c2 = same-test-c2 s;
-    c3 = same-place-c3 s;
-    verdict = same-verdict;
-    passes = same-settled s;
-    settling = same-settling;
-  }
 
 -- ---- what was written where the answer is 0: the sheet, of a valid record
 
@@ -166,3 +120,17 @@ net-text-equal s t f g =
     rw (demand1-net-text s .written f, demand1-net-text t .written g)
     (sheets-equal fieldWidth (omega arith) (netOf s) (netOf t)
     (read-valid fieldWidth s (netOf s) (sheet-accepted fieldWidth s f)) (read-valid fieldWidth t (netOf t) (sheet-accepted fieldWidth t g)))
+
+-- and the program `settle` prints for that text what it prints for the sheet itself
+pub net-text-settles : (sheet jobs : Bytes) → NoRow (sheetRows sheet) → outputOf (textOf sheet) jobs ≡ outputOf sheet jobs
+unfolding outputOf openingText judgedOf jobsText
+net-text-settles sheet jobs f =
+    let N = netOf sheet in
+    let reads = sheet-accepted fieldWidth sheet f in
+    let v = read-valid fieldWidth sheet N reads in
+    let again : readSheet (textOf sheet) ≡ accepted (canonical N) =
+    ap readSheet (demand1-net-text sheet .written f) ∙ read-canonical fieldWidth (omega arith) N v in
+    let b = same-behaviour (canonical-same N) (canonical-valid N v) v in
+    let lines = take (mostJobs * lineWidth) jobs in
+    rw (again, reads)
+    (ap₂ {C = Bytes} (λ x y. x ++ y) (ap₂ firstLine (b .verdict) (same-key-count (canonical-same N))) (same-net-text (canonical-same N) (canonical-valid N v) v 1 lines))

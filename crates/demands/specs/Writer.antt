@@ -2,7 +2,7 @@
 use Prim.Native.Nat.{ℕ, _≤_}
 use mathlib.Core.Path.{_≡_}
 use mathlib.Core.Bool.{true}
-use mathlib.Core.List.{List, _++_}
+use mathlib.Core.List.{_++_}
 use lib.ListN.{length, take, drop}
 use Rattle.ternary.specs.Lists.{Bytes}
 use Rattle.ternary.specs.Bits.{InputState, KeyState}
@@ -18,6 +18,7 @@ use Rattle.sheet.specs.Reading.{readSheet}
 use Rattle.sheet.specs.Valid.{valid}
 use Rattle.soundness.specs.Verdict.{verdictOf}
 use Rattle.settlements.specs.Settle.{settleOf}
+use Rattle.settlements.specs.Batch.{batchOf}
 use Rattle.output.specs.Output.{firstLine}
 use Rattle.writer.specs.SameNet.{SameNet}
 use Rattle.writer.specs.Agreed.{InAgreedOrder, canonicalSheet}
@@ -36,7 +37,7 @@ abbrev pub bytesOf : Writing → Bytes
 bytesOf W = take (W .length) (W .buffer)
 
 -- two records that behave alike: the same letters and key nodes, in every state the same excitation of every storage vertex, C1 to C3 broken at the same
--- places if at all and the same verdict, the same passes, and the same from settling, refusals included
+-- places if at all and the same verdict, the same passes, and the same from settling and from a batch, refusals included
 pub record BehavesAs (M N : Net) : Type 0 where
   pub letters : M .«letter_count» ≡ N .«letter_count»
   pub key-nodes : keys M ≡ keys N
@@ -48,6 +49,7 @@ pub record BehavesAs (M N : Net) : Type 0 where
   pub verdict : verdictOf M ≡ verdictOf N
   pub passes : (A B : InputState) (q : KeyState) → settled M A B q ≡ settled N A B q
   pub settling : (A B : InputState) (q : KeyState) (R T : Bytes) → settleOf M A B q R T ≡ settleOf N A B q R T
+  pub batch : (jobs results answers : Bytes) → batchOf M jobs results answers ≡ batchOf N jobs results answers
 
 -- what was written of record N in the agreed order: it reads to an accepted record of the same net, which is in the agreed order and the only one that is;
 -- writing that record once more gives the same bytes; and it behaves as N

@@ -4,7 +4,7 @@ use native.Mathlib.Nat.{le-of-suc-le-suc}
 use native.Mathlib.Omega.{arith}
 use mathlib.Core.Path.{_≡_, refl, sym, ap, ap₂, subst, _∙_}
 use mathlib.Core.Logic.{_↔_}
-use mathlib.Core.Bool.{Bool, true, false, not, _&&_}
+use mathlib.Core.Bool.{Bool, true, not}
 use mathlib.Core.List.{List, [], _∷_, _++_, map, List·Permᴰ, Permᴰ·symm}
 use lib.Dec.{leb, eqb}
 use lib.ListN.{length, getD, take, drop, replicate, length-append, length-drop, length-map, take-append-drop, List·getD-append}
@@ -25,7 +25,7 @@ use Rattle.sheet.specs.Writing.{writeIn}
 use Rattle.sheet.specs.Reading.{withEdges, readIn}
 use Rattle.sheet.specs.declared.Reading.{Reading}
 use Rattle.sheet.specs.Valid.{allOf, isNoEdge, valid}
-use Rattle.sheet.proofs.Places.{all-same, all-taken}
+use Rattle.sheet.proofs.Places.{all-same}
 use Rattle.sheet.proofs.RuleLaws.{no-edge}
 use Rattle.sheet.proofs.Validity.{Valid, valid-iff, counts-of}
 use Rattle.sheet.proofs.WriteLaws.{read-write-sheet}
@@ -35,7 +35,7 @@ use Rattle.writer.specs.Agreed.{edgeUpTo, InAgreedOrder, lowFirst, order
 use Rattle.writer.proofs.OrderLaws.{edge-trans, edge-total, edge-both}
 use Rattle.writer.proofs.SortingLaws.{sort-permuted, sort-sorted, sort-fixed, sorted-at, sorted-of, permuted-sort}
 use Rattle.writer.proofs.Permuted.{permuted-length, permuted-all}
-use Rattle.writer.proofs.SameNetLaws.{redrawn-refl, redrawn-back, each-low, permuted-redrawn, redrawn-permuted, net-back, net-onward}
+use Rattle.writer.proofs.SameNetLaws.{redrawn-back, each-low, permuted-redrawn, redrawn-permuted, net-back, net-onward}
 use Rattle.writer.specs.SameNet.Redrawn.{onward}
 use Rattle.writer.proofs.SameRows.{same-graph}
 

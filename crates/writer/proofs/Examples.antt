@@ -1,8 +1,6 @@
 -- Computed examples: document 01's worked net, the same net as another draughtsman enters it, and the order that each number of an edge decides.
-use Prim.Native.Nat.{ℕ}
 use native.Mathlib.Omega.{arith}
 use mathlib.Core.Path.{_≡_, refl, sym, _∙_}
-use mathlib.Core.Bool.{true}
 use mathlib.Core.List.{List, [], _∷_, _++_}
 use lib.ListN.{replicate}
 use Rattle.ternary.specs.Lists.{Bytes}
@@ -10,11 +8,9 @@ use Rattle.net.specs.declared.Edge.{Edge}
 use Rattle.net.specs.declared.Net.{Net}
 use Rattle.net.proofs.Concrete.{vertex, edge, net}
 use Rattle.sheet.specs.Limits.{fieldWidth}
-use Rattle.sheet.specs.Rows.{answer, firstRow, byRows}
+use Rattle.sheet.specs.Rows.{answer, byRows}
 use Rattle.sheet.specs.Record.{emptyNet}
-use Rattle.sheet.specs.Reading.{withEdges}
 use Rattle.sheet.specs.Text.{text}
-use Rattle.sheet.specs.Valid.{valid}
 use Rattle.sheet.proofs.Sheets.{open-all, workedSheet, workedNet}
 use Rattle.writer.specs.SameNet.{edgesOf, SameNet}
 use Rattle.writer.specs.Sorting.{insert, sort, upTo}

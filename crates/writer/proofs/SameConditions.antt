@@ -1,12 +1,12 @@
 -- Records of the same net meet the same conditions, with the same offenders.
 use Prim.Native.Nat.{ℕ, suc, _^_, _<_}
-use mathlib.Core.Path.{_≡_, refl, sym, ap, ap₂, _∙_}
+use mathlib.Core.Path.{_≡_, refl, ap, ap₂, _∙_}
 use mathlib.Core.Bool.{Bool, true, false, not, _&&_}
 use mathlib.Core.List.{List}
 use lib.Dec.{eqb, ltb}
 use Rattle.net.specs.declared.Net.{Net}
 use Rattle.net.specs.Graph.{isKey, isOutput, isStorage, hasRole, keyCount, keyVertex}
-use Rattle.net.specs.Excitation.{excitation, fights}
+use Rattle.net.specs.Excitation.{excitation}
 use Rattle.net.specs.Network.{network, stable}
 use Rattle.net.specs.WellFormed.{everyState, breaksC1, placeC1, testC2, breaksC3, placeC3}
 use Rattle.net.proofs.Keys.{key-at, key-storage}

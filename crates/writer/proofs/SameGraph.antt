@@ -1,12 +1,11 @@
 -- A connection does not depend on the order of the edges, nor on the order of an edge's ends: records of the same net have the same key nodes,
 -- excitations and fights.
-use Prim.Native.Nat.{ℕ, suc, _+_, _-_, _<_}
+use Prim.Native.Nat.{ℕ, suc, _+_, _<_}
 use mathlib.Core.Path.{_≡_, refl, sym, ap, ap₂, subst, _∙_}
-use mathlib.Core.Bool.{Bool, true, cond, _&&_, _||_}
-use mathlib.Core.Logic.{_⊎_, inl, inr}
-use mathlib.Core.List.{List}
-use lib.Dec.{leb, eqb}
-use lib.ListN.{length, getD}
+use mathlib.Core.Bool.{Bool, true}
+use mathlib.Core.Logic.{inl, inr}
+use lib.Dec.{eqb}
+use lib.ListN.{getD}
 use borrow.Author.Tests.{eqb-true, eq-eqb}
 use Rattle.net.specs.declared.Edge.{Edge}
 use Rattle.net.specs.declared.Net.{Net}
@@ -23,8 +22,8 @@ use Rattle.net.specs.Excitation.{connected, excitation, fights}
 use Rattle.net.proofs.Connected.{connected-iff}
 use Rattle.net.proofs.Fights.{fights-iff}
 use Rattle.ternary.specs.Bits.{bit}
-use Rattle.ternary.specs.Lists.{countBelow, listBelow, table}
-use Rattle.ternary.proofs.Tests.{and-left, and-right, both, cond-by, same-test}
+use Rattle.ternary.specs.Lists.{countBelow, listBelow}
+use Rattle.ternary.proofs.Tests.{and-left, and-right, both, same-test}
 use Rattle.ternary.proofs.ListLaws.{any-found, any-of, length-table, getD-table}
 use Rattle.writer.specs.SameNet.{edgesOf, turned, SameEdge, SameNet}
 use Rattle.writer.proofs.SameNetLaws.{edge-onward, redrawn-at, net-back}

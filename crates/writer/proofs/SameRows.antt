@@ -1,8 +1,8 @@
 -- Records of the same net are silent in the same rows over the graph.
-use Prim.Native.Nat.{ℕ, suc, _-_, _≤_, _<_}
+use Prim.Native.Nat.{ℕ, suc, _-_, _<_}
 use mathlib.Core.Path.{_≡_, refl, sym, ap, ap₂, _∙_}
-use mathlib.Core.Bool.{Bool, true, _&&_}
-use mathlib.Core.Logic.{_⊎_, inl, inr}
+use mathlib.Core.Bool.{Bool, _&&_}
+use mathlib.Core.Logic.{inl, inr}
 use mathlib.Core.List.{List}
 use mathlib.Core.Option.{none}
 use lib.Dec.{ltb}
@@ -10,11 +10,9 @@ use lib.ListN.{getElem?}
 use Rattle.net.specs.declared.Edge.{Edge}
 use Rattle.net.specs.declared.Net.{Net}
 use Rattle.net.specs.Limits.{mostKeyNodes, mostSignals}
-use Rattle.net.specs.Graph.{edgeAt, isStorage}
-use Rattle.net.specs.SignalTable.{signalCount}
 use Rattle.net.specs.Walks.{Joins}
 use Rattle.sheet.specs.Rows.{firstRow}
-use Rattle.sheet.specs.Graph.{partnerPlace, keyPlace, overSignals, signalPlace, graphRows}
+use Rattle.sheet.specs.Graph.{keyPlace, overSignals, signalPlace, graphRows}
 use Rattle.sheet.proofs.GraphLaws.{Partner, Paired, partner-none, graph-none}
 use Rattle.ternary.specs.Lists.{leastBelow}
 use Rattle.writer.specs.SameNet.{SameEdge, SameNet}

@@ -3,12 +3,11 @@ use Prim.Native.Nat.{ℕ, suc, _+_, _^_}
 use mathlib.Core.Path.{_≡_, refl, sym, ap, ap₂, subst, _∙_}
 use mathlib.Core.Bool.{Bool, true, cond}
 use mathlib.Core.Logic.{_⊎_, inl, inr}
-use mathlib.Core.List.{List}
 use lib.ListN.{length}
 use Rattle.net.specs.declared.Net.{Net}
 use Rattle.net.specs.Limits.{letterBase, vertexBase}
 use Rattle.net.specs.Symbols.{decode, isVariable, symbolBound}
-use Rattle.net.specs.Graph.{vertexAt, edgeAt, isInput, isStorage, keyCount, keyVertex}
+use Rattle.net.specs.Graph.{vertexAt, edgeAt, isStorage, keyVertex}
 use Rattle.net.specs.Walks.{Link, Walk}
 use Rattle.net.specs.Component.{everyEdge, SameComponent, Signal, on-edge, on-input, components, isSignal, signals}
 use Rattle.net.specs.SignalTable.{signalCount, signalIndex, setting, spreadInput, spreadKeys, excitationAt, truthTable}

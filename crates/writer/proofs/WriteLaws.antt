@@ -1,30 +1,25 @@
 -- The sheet of a record part by part, and what the calls that write it answer.
-use Prim.Native.Nat.{ℕ, zero, suc, _+_, _*_, _≤_, _<_}
+use Prim.Native.Nat.{ℕ, _+_, _*_, _≤_, _<_}
 use native.Mathlib.Nat.{mul-le-mul-left}
-use native.Mathlib.Numerals.{add-one}
 use native.Mathlib.Omega.{arith}
-use mathlib.Core.Path.{_≡_, refl, sym, ap, _∙_}
+use mathlib.Core.Path.{_≡_, refl, ap, _∙_}
 use mathlib.Core.Bool.{true, false}
 use mathlib.Core.Logic.{_↔_}
-use mathlib.Core.List.{List, [], _∷_, _++_, append-assoc, append-nil}
+use mathlib.Core.List.{List, _++_}
 use lib.Dec.{ltb}
-use lib.ListN.{length, getD, take, drop, length-append}
-use lib.Seq.{take-suc, length-take-le}
+use lib.ListN.{length, take, drop, length-append}
+use lib.Seq.{length-take-le}
 use borrow.Author.Tests.{lt-ltb, le-ltb}
-use Rattle.net.specs.declared.Vertex.{Vertex}
-use Rattle.net.specs.declared.Edge.{Edge}
 use Rattle.net.specs.declared.Net.{Net}
-use Rattle.net.specs.Graph.{noVertex, noEdge}
 use Rattle.sheet.specs.Limits.{Columns, mostColumns, lineBytes, mostLines, sheetBytes}
-use Rattle.sheet.specs.Line.{writeLine}
 use Rattle.sheet.specs.Rows.{Row, answer, firstRow, byRows, answered, First, NoRow}
 use Rattle.sheet.specs.declared.Answer.{Answer}
-use Rattle.sheet.specs.Writing.{headerLine, vertexLine, edgeLine, vertexLines, edgeLines, writeIn}
+use Rattle.sheet.specs.Writing.{headerLine, vertexLines, edgeLines, writeIn}
 use Rattle.sheet.specs.Valid.{valid}
 use Rattle.sheet.proofs.RowLaws.{positive, by-rows-answer, by-rows-first, by-rows-fit, answered-zero, answered-some}
 use Rattle.sheet.proofs.LineLaws.{length-line}
 use Rattle.sheet.proofs.WriteLaws.{length-vertices, length-edges}
-use Rattle.sheet.proofs.Validity.{Valid, valid-iff, counts-of}
+use Rattle.sheet.proofs.Validity.{valid-iff, counts-of}
 use Rattle.ternary.specs.Lists.{Bytes}
 use Rattle.ternary.proofs.Tests.{by-test}
 use Rattle.writer.specs.Agreed.{canonical, canonicalIn}

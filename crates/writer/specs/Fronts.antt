@@ -1,5 +1,5 @@
 -- For the code alone: what it counts on where it writes, and what is left of the call once the record was tested.
-use Prim.Native.Nat.{ℕ, _≤_}
+use Prim.Native.Nat.{_≤_}
 use mathlib.Core.Path.{_≡_}
 use mathlib.Core.Bool.{cond}
 use mathlib.Core.List.{_++_}

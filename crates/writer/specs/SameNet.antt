@@ -1,5 +1,4 @@
 -- Two records of the same net: they differ at most in the order of their edges and in the order of an edge's ends.
-use Prim.Native.Nat.{ℕ}
 use mathlib.Core.Path.{_≡_}
 use mathlib.Core.Logic.{_⊎_}
 use mathlib.Core.List.{List, [], _∷_}

@@ -1,7 +1,7 @@
 //! Writing a record's sheet to a lent buffer: in the agreed order of its edges, or in the record's own. Types, definitions and laws are those of the
 //! crates `sheet` and `writer`.
 
-pub mod lines;
+mod lines;
 
 ghost use mathlib.Core.Path.{_≡_};
 ghost use Prim.Native.Nat.{_≤_};

@@ -1,12 +1,10 @@
 -- `put_front` meets its contract: without room nothing is written, else the sheet stands at the front.
-use Prim.Native.Nat.{_≤_}
 use native.Mathlib.Omega.{arith}
 use mathlib.Core.Path.{_≡_, sym, _∙_}
 use lib.ListN.{length}
 use lib.Seq.{length-take-le}
 use borrow.Author.Needs.{needs}
 use Rattle.sheet.specs.Writing.{writeIn}
-use Rattle.sheet.specs.Limits.{lineBytes, mostColumns, mostLines}
 use Rattle.writer.proofs.WriteLaws.{sheet-length, sheet-most, front-short, front-fits}
 use Rattle.writer_sheet.proofs.put_front.Statement.{statement}
 use Rattle.writer_sheet.proofs.put_front.Tie as tie

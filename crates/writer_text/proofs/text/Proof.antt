@@ -1,6 +1,6 @@
 -- `text` meets its contract: the first line under a refusal, else the sheet.
 use native.Mathlib.Omega.{arith}
-use mathlib.Core.Path.{_≡_, sym, ap, _∙_}
+use mathlib.Core.Path.{sym}
 use lib.Seq.{length-take-le}
 use borrow.Author.Needs.{needs}
 use Rattle.writer_text.proofs.TextLaws.{refused-fills, accepted-fills}
