@@ -10,7 +10,6 @@ use Rattle.ternary.specs.Lists.{Bytes}
 use Rattle.ternary.specs.Bits.{InputState, KeyState}
 use Rattle.ternary.specs.Passes.{Settled}
 use Rattle.net.specs.declared.Net.{Net}
-use Rattle.net.specs.Graph.{keyCount}
 use Rattle.sheet.specs.declared.Answer.{Answer}
 use Rattle.sheet.specs.declared.JobLine.{JobLine}
 use Rattle.sheet.specs.declared.JobLine.the-variants.{Asked, Refused}

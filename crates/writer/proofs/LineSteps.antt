@@ -1,22 +1,25 @@
 -- Lines that are written one after the other to a lent part of just their size.
-use Prim.Native.Nat.{ℕ, suc, _+_, _-_, _*_, _≤_, _<_}
+use Prim.Native.Nat.{ℕ, zero, suc, _+_, _-_, _*_, _≤_, _<_}
 use native.Mathlib.Nat.{add-zero, add-suc, suc-add, mul-suc, mul-zero, mul-one, mul-add, mul-le-mul-left}
 use native.Mathlib.Numerals.{add-one}
 use native.Mathlib.Omega.{arith}
-use mathlib.Core.Path.{_≡_, refl, sym, ap, _∙_}
+use mathlib.Core.Path.{_≡_, refl, sym, ap, ap₂, _∙_}
 use mathlib.Core.List.{List, [], _∷_, _++_, append-assoc, append-nil}
 use lib.ListN.{length, getD, take}
 use lib.Seq.{take-suc, length-take-le}
+use borrow.Author.Tests.{lt-ltb, le-ltb}
 use borrow.Rule.Slice.PartMut.{putMid}
 use Rattle.ternary.specs.Lists.{Bytes}
 use Rattle.net.specs.declared.Vertex.{Vertex}
 use Rattle.net.specs.declared.Edge.{Edge}
+use Rattle.net.specs.declared.Net.{Net}
 use Rattle.net.specs.Graph.{noVertex, noEdge}
 use Rattle.sheet.specs.Limits.{Columns, lineBytes}
 use Rattle.sheet.specs.Line.{writeLine}
 use Rattle.sheet.specs.declared.Line.{Line}
 use Rattle.sheet.specs.Writing.{vertexLine, edgeLine, vertexLines, edgeLines}
 use Rattle.sheet.proofs.LineLaws.{length-line}
+use Rattle.writer.specs.Fronts.{Sized, bodyLine}
 use Rattle.sheet.proofs.FrontLaws.{Front, nothing, next-part, all-written}
 
 module _ (w : Columns) where
@@ -40,54 +43,86 @@ module _ (w : Columns) where
   unfolding edgeLines
   edge-alone e = append-nil (writeLine w (edgeLine e))
 
-  -- the first j lines, and with the next one after them
-  abbrev pub vertexText : List Vertex → ℕ → Bytes
-  vertexText xs j = vertexLines w 0 (take j xs)
+  -- one line more
 
-  abbrev pub edgeText : List Edge → ℕ → Bytes
-  edgeText xs i = edgeLines w (take i xs)
-
-  pub vertices-more : (xs : List Vertex) (j : ℕ) → j < length xs → vertexText xs j ++ writeLine w (vertexLine j (getD xs j noVertex)) ≡ vertexText xs (suc j)
+  vertices-more : (xs : List Vertex) (j : ℕ) → j < length xs
+      → vertexLines w 0 (take j xs) ++ writeLine w (vertexLine j (getD xs j noVertex)) ≡ vertexLines w 0 (take (suc j) xs)
   vertices-more xs j h =
       let size : 0 + length (take j xs) ≡ j = omega (arith, length-take-le j xs (omega arith)) in
       sym (rw (take-suc xs j noVertex h, vertices-append 0 (take j xs) (getD xs j noVertex ∷ []), size, vertex-alone))
 
-  pub edges-more : (xs : List Edge) (i : ℕ) → i < length xs → edgeText xs i ++ writeLine w (edgeLine (getD xs i noEdge)) ≡ edgeText xs (suc i)
+  edges-more : (xs : List Edge) (i : ℕ) → i < length xs → edgeLines w (take i xs) ++ writeLine w (edgeLine (getD xs i noEdge)) ≡ edgeLines w (take (suc i) xs)
   edges-more xs i h = sym (rw (take-suc xs i noEdge h, edges-append (take i xs) (getD xs i noEdge ∷ []), edge-alone))
 
--- ---- the loop: text i is that of the first i of so many lines, and the buffer has them
+  -- ---- so many lines of any kind
 
-pub record LinesWritten (w : Columns) (count : ℕ) (text : ℕ → Bytes) (i at : ℕ) (out : Bytes) : Type 0 where
+  unfoldable pub linesText : (ℕ → Line) → ℕ → Bytes
+  linesText f zero = []
+  linesText f (suc k) = linesText f k ++ writeLine w (f k)
+
+  module _ (N : Net) (s : Sized N) where
+    vertices-text : (j : ℕ) → j ≤ N .«vertex_count» → linesText (bodyLine N) j ≡ vertexLines w 0 (take j (N .vertices))
+    unfolding linesText vertexLines bodyLine
+    vertices-text zero h = refl
+    vertices-text (suc j) h =
+        ap (λ (t : Bytes). t ++ writeLine w (bodyLine N j)) (vertices-text j (omega arith))
+        ∙ rw (lt-ltb j (N .«vertex_count») h) (vertices-more (N .vertices) j (omega (arith, s .vertices, s .vertex-places)))
+
+    edge-at : (k : ℕ) → bodyLine N (N .«vertex_count» + k) ≡ edgeLine (getD (N .edges) k noEdge)
+    unfolding bodyLine
+    edge-at k =
+        let v : ℕ = N .«vertex_count» in
+        let place : v + k - v ≡ k = omega arith in
+        rw (le-ltb (v + k) v (omega arith), place)
+
+    edges-text : (k : ℕ) → k ≤ N .«edge_count»
+        → linesText (bodyLine N) (N .«vertex_count» + k) ≡ vertexLines w 0 (take (N .«vertex_count») (N .vertices)) ++ edgeLines w (take k (N .edges))
+    unfolding linesText edgeLines
+    edges-text zero h = rw (add-zero, append-nil) (vertices-text (N .«vertex_count») (omega arith))
+    edges-text (suc k) h =
+        let v : ℕ = N .«vertex_count» in
+        let vertices : Bytes = vertexLines w 0 (take v (N .vertices)) in
+        ap (linesText (bodyLine N)) (add-suc v k)
+        ∙ ap₂ {C = Bytes} (λ t l. t ++ writeLine w l) (edges-text k (omega arith)) (edge-at k)
+        ∙ append-assoc vertices (edgeLines w (take k (N .edges))) (writeLine w (edgeLine (getD (N .edges) k noEdge)))
+        ∙ ap (λ (t : Bytes). vertices ++ t) (edges-more (N .edges) k (omega (arith, s .edges, s .edge-places)))
+
+    -- all of them are the lines of a sheet below its header
+    pub body-text : linesText (bodyLine N) (N .«vertex_count» + N .«edge_count»)
+        ≡ vertexLines w 0 (take (N .«vertex_count») (N .vertices)) ++ edgeLines w (take (N .«edge_count») (N .edges))
+    body-text = edges-text (N .«edge_count») (omega arith)
+
+-- ---- the loop: the buffer has the first i of so many lines
+
+pub record LinesWritten (w : Columns) (f : ℕ → Line) (count i at : ℕ) (out : Bytes) : Type 0 where
   pub some-left : i ≤ count
   pub reached : at ≡ lineBytes w * i
-  pub front : Front (lineBytes w * count) at (text i) out
+  pub front : Front (lineBytes w * count) at (linesText w f i) out
 
-module _ {w : Columns} {count : ℕ} {text : ℕ → Bytes} where
-  pub lines-start : (out : Bytes) → text 0 ≡ [] → length out ≡ lineBytes w * count → LinesWritten w count text 0 0 out
-  lines-start out e size = record { some-left = omega arith; reached = sym (mul-zero (lineBytes w)); front = rw e (nothing out size) }
+module _ {w : Columns} {f : ℕ → Line} {count : ℕ} where
+  pub lines-start : (out : Bytes) → length out ≡ lineBytes w * count → LinesWritten w f count 0 0 out
+  unfolding linesText
+  lines-start out size = record { some-left = omega arith; reached = sym (mul-zero (lineBytes w)); front = nothing out size }
 
-  module _ {i at : ℕ} {out : Bytes} (l : LinesWritten w count text i at out) where
+  module _ {i at : ℕ} {out : Bytes} (l : LinesWritten w f count i at out) where
     -- there is room for one line more
     pub lines-room : i < count → at + lineBytes w ≤ lineBytes w * count
     lines-room h = omega (arith, l .reached, mul-suc (lineBytes w) i, mul-le-mul-left {m = suc i} {n = count} (lineBytes w) h)
 
-    pub lines-step : i < count → (end : ℕ) → end ≡ at + lineBytes w → (v : Line) {part : Bytes} → part ≡ writeLine w v → text i ++ writeLine w v ≡ text (suc i)
-        → LinesWritten w count text (i + 1) end (putMid at (end - at) out part)
-    lines-step h end e v q more =
+    pub lines-step : i < count → (end : ℕ) → end ≡ at + lineBytes w → {part : Bytes} → part ≡ writeLine w (f i)
+        → LinesWritten w f count (i + 1) end (putMid at (end - at) out part)
+    unfolding linesText
+    lines-step h end e q =
         let room = lines-room h in
         record {
           some-left = omega arith;
           reached = omega (arith, l .reached, mul-suc (lineBytes w) i, add-one i);
-          front = rw (add-one i, sym more) (next-part (l .front) end q (omega arith) (omega arith) (length-line w v ∙ omega arith));
+          front = rw (add-one i) (next-part (l .front) end q (omega arith) (omega arith) (length-line w (f i) ∙ omega arith));
         }
 
-  pub lines-end : {i at : ℕ} {out : Bytes} → LinesWritten w count text i at out → i ≡ count → out ≡ text count
-  lines-end {i} {at} {out} l e = all-written (l .front) (l .reached ∙ ap (λ (n : ℕ). lineBytes w * n) e) ∙ ap text e
+  pub lines-end : {i at : ℕ} {out : Bytes} → LinesWritten w f count i at out → i ≡ count → out ≡ linesText w f count
+  lines-end {i} {at} {out} l e = all-written (l .front) (l .reached ∙ ap (λ (n : ℕ). lineBytes w * n) e) ∙ ap (linesText w f) e
 
--- ---- the parts of a sheet: a header, v lines and e lines of L bytes each
-
-pub lines-before-edges : (L v : ℕ) → L * (1 + v) ≡ L + L * v
-lines-before-edges L v = mul-add L 1 v ∙ ap (λ (n : ℕ). n + L * v) (mul-one L)
-
-pub lines-in-all : (L v e : ℕ) → L * (1 + v + e) ≡ L * (1 + v) + L * e
-lines-in-all L v e = mul-add L (1 + v) e
+-- a line of L bytes, and n more
+pub lines-below : (L n : ℕ) → L * (1 + n) ≡ L + L * n
+lines-below L n = mul-add L 1 n ∙ ap (λ (k : ℕ). k + L * n) (mul-one L)

@@ -1,8 +1,8 @@
 -- The sheet of a record part by part, and what the calls that write it answer.
 use Prim.Native.Nat.{ℕ, _+_, _*_, _≤_, _<_}
-use native.Mathlib.Nat.{mul-le-mul-left}
+use native.Mathlib.Nat.{mul-add, mul-le-mul-left}
 use native.Mathlib.Omega.{arith}
-use mathlib.Core.Path.{_≡_, refl, ap, _∙_}
+use mathlib.Core.Path.{_≡_, refl, sym, ap, ap₂, _∙_}
 use mathlib.Core.Bool.{true, false}
 use mathlib.Core.Logic.{_↔_}
 use mathlib.Core.List.{List, _++_}
@@ -12,6 +12,7 @@ use lib.Seq.{length-take-le}
 use borrow.Author.Tests.{lt-ltb, le-ltb}
 use Rattle.net.specs.declared.Net.{Net}
 use Rattle.sheet.specs.Limits.{Columns, mostColumns, lineBytes, mostLines, sheetBytes}
+use Rattle.sheet.specs.Line.{writeLine}
 use Rattle.sheet.specs.Rows.{Row, answer, firstRow, byRows, answered, First, NoRow}
 use Rattle.sheet.specs.declared.Answer.{Answer}
 use Rattle.sheet.specs.Writing.{headerLine, vertexLines, edgeLines, writeIn}
@@ -26,34 +27,32 @@ use Rattle.writer.specs.Agreed.{canonical, canonicalIn}
 use Rattle.writer.specs.Write.{Writing, writing, writingRows, writingBy}
 use Rattle.writer.specs.Fronts.{Sized, atFront}
 use Rattle.writer.proofs.AgreedLaws.{canonical-valid}
-use Rattle.writer.proofs.LineSteps.{lines-before-edges, lines-in-all}
+use Rattle.writer.proofs.LineSteps.{lines-below}
 
 module _ (w : Columns) where
   -- ---- lengths
 
   module _ (N : Net) (s : Sized N) where
-    pub vertices-length : length (vertexLines w 0 (take (N .«vertex_count») (N .vertices))) ≡ lineBytes w * N .«vertex_count»
-    vertices-length =
-        length-vertices w 0 _
-        ∙ ap (λ (n : ℕ). lineBytes w * n) (length-take-le (N .«vertex_count») (N .vertices) (omega (arith, s .vertices, s .vertex-places)))
+    pub body-length : length (vertexLines w 0 (take (N .«vertex_count») (N .vertices)) ++ edgeLines w (take (N .«edge_count») (N .edges)))
+        ≡ lineBytes w * (N .«vertex_count» + N .«edge_count»)
+    body-length =
+        let v : ℕ = N .«vertex_count» in
+        let e : ℕ = N .«edge_count» in
+        let vertices = length-vertices w 0 (take v (N .vertices)) ∙ ap (λ (n : ℕ). lineBytes w * n) (length-take-le v (N .vertices) (omega (arith, s .vertices, s .vertex-places))) in
+        let edges = length-edges w (take e (N .edges)) ∙ ap (λ (n : ℕ). lineBytes w * n) (length-take-le e (N .edges) (omega (arith, s .edges, s .edge-places))) in
+        simp (length-append, vertices, edges) (sym (mul-add (lineBytes w) v e))
 
-    pub edges-length : length (edgeLines w (take (N .«edge_count») (N .edges))) ≡ lineBytes w * N .«edge_count»
-    edges-length =
-        length-edges w _
-        ∙ ap (λ (n : ℕ). lineBytes w * n) (length-take-le (N .«edge_count») (N .edges) (omega (arith, s .edges, s .edge-places)))
-
-    pub sheet-length : length (writeIn w N) ≡ lineBytes w * (1 + N .«vertex_count» + N .«edge_count»)
+    pub sheet-length : length (writeIn w N) ≡ lineBytes w * (1 + (N .«vertex_count» + N .«edge_count»))
     unfolding writeIn
     sheet-length =
-        let L = lineBytes w in
-        simp (length-append, length-line w (headerLine N), vertices-length, edges-length)
-        (omega (arith, lines-before-edges L (N .«vertex_count»), lines-in-all L (N .«vertex_count») (N .«edge_count»)))
+        length-append (writeLine w (headerLine N)) _ ∙ ap₂ _+_ (length-line w (headerLine N)) body-length
+        ∙ omega (arith, lines-below (lineBytes w) (N .«vertex_count» + N .«edge_count»))
 
   -- no sheet of any width that is read is longer
-  pub sheet-most : w ≤ mostColumns → (N : Net) → Sized N → lineBytes w * (1 + N .«vertex_count» + N .«edge_count») ≤ lineBytes mostColumns * mostLines
+  pub sheet-most : w ≤ mostColumns → (N : Net) → Sized N → lineBytes w * (1 + (N .«vertex_count» + N .«edge_count»)) ≤ lineBytes mostColumns * mostLines
   sheet-most h N s =
-      let lines : 1 + N .«vertex_count» + N .«edge_count» ≤ mostLines = omega (arith, s .vertices, s .edges) in
-      omega (arith, mul-le-mul-left {m = 1 + N .«vertex_count» + N .«edge_count»} {n = mostLines} (lineBytes w) lines)
+      let lines : 1 + (N .«vertex_count» + N .«edge_count») ≤ mostLines = omega (arith, s .vertices, s .edges) in
+      omega (arith, mul-le-mul-left {m = 1 + (N .«vertex_count» + N .«edge_count»)} {n = mostLines} (lineBytes w) lines)
 
 pub valid-sized : (N : Net) → valid N ≡ true → Sized N
 valid-sized N v =
@@ -62,15 +61,15 @@ valid-sized N v =
 
 -- the sheet in the agreed order is as long as the record's own, and fits where any sheet does
 module _ (w : Columns) (N : Net) (v : valid N ≡ true) where
-  pub canonical-length : length (canonicalIn w N) ≡ lineBytes w * (1 + N .«vertex_count» + N .«edge_count»)
+  pub canonical-length : length (canonicalIn w N) ≡ lineBytes w * (1 + (N .«vertex_count» + N .«edge_count»))
   unfolding canonicalIn canonical
   canonical-length = sheet-length w (canonical N) (valid-sized (canonical N) (canonical-valid N v))
 
   pub canonical-fits : length (canonicalIn w N) ≤ sheetBytes w
   canonical-fits =
       let s = valid-sized N v in
-      let lines : 1 + N .«vertex_count» + N .«edge_count» ≤ mostLines = omega (arith, s .vertices, s .edges) in
-      rw canonical-length (mul-le-mul-left {m = 1 + N .«vertex_count» + N .«edge_count»} {n = mostLines} (lineBytes w) lines)
+      let lines : 1 + (N .«vertex_count» + N .«edge_count») ≤ mostLines = omega (arith, s .vertices, s .edges) in
+      rw canonical-length (mul-le-mul-left {m = 1 + (N .«vertex_count» + N .«edge_count»)} {n = mostLines} (lineBytes w) lines)
 
 -- ---- a sheet of so many bytes, where it has room and where it has not
 

@@ -2,12 +2,13 @@
 //! and `writer`.
 
 ghost use mathlib.Core.Path.{_≡_};
+ghost use mathlib.Core.List.{_++_};
 ghost use Prim.Native.Nat.{_+_, _*_, _≤_, _<_};
 ghost use lib.ListN.{length, take};
 ghost use Rattle.net.specs.Limits.{mostVertices};
 ghost use Rattle.sheet.specs.Limits.{mostColumns, lineBytes};
 ghost use Rattle.sheet.specs.Writing.{headerLine, vertexLine, edgeLine, vertexLines, edgeLines, writeIn};
-ghost use Rattle.writer.specs.Fronts.{Sized};
+ghost use Rattle.writer.specs.Fronts.{Sized, bodyLine};
 use net::Edge;
 use net::Net;
 use net::Vertex;
@@ -52,31 +53,27 @@ fn edge_line(e: Edge) -> Line
     }
 }
 
-fn write_vertices(out: &mut [u8], columns: usize, net: Net)
-    requires { ⌜ Sized net × (columns ≤ mostColumns) × (length (now out) ≡ lineBytes columns * net .«vertex_count») ⌝ }
-    ensures { λ _. ⌜ now (out .exit) ≡ vertexLines columns 0 (take (net .«vertex_count») (net .vertices)) ⌝ }
+// Line j below the header, counted from 0: vertices come before edges, which stand in the record's order.
+fn body_line(net: Net, j: usize) -> Line
+    requires { ⌜ Sized net × (j < net .«vertex_count» + net .«edge_count») ⌝ }
+    ensures { λ r. ⌜ r ≡ bodyLine net j ⌝ }
 {
-    let width = sheet::line_bytes(columns);
-    let count = net.vertex_count as usize;
-    let mut at: usize = 0;
-    for j in 0..count {
-        let line = vertex_line(net.vertices[j], j);
-        let end = at + width;
-        line_values::write_line(&mut out[at..end], columns, line);
-        at = end;
+    let vertices = net.vertex_count as usize;
+    if j < vertices {
+        return vertex_line(net.vertices[j], j);
     }
+    edge_line(net.edges[j - vertices])
 }
 
-// In the record's order.
-fn write_edges(out: &mut [u8], columns: usize, net: Net)
-    requires { ⌜ Sized net × (columns ≤ mostColumns) × (length (now out) ≡ lineBytes columns * net .«edge_count») ⌝ }
-    ensures { λ _. ⌜ now (out .exit) ≡ edgeLines columns (take (net .«edge_count») (net .edges)) ⌝ }
+fn write_body(out: &mut [u8], columns: usize, net: Net)
+    requires { ⌜ Sized net × (columns ≤ mostColumns) × (length (now out) ≡ lineBytes columns * (net .«vertex_count» + net .«edge_count»)) ⌝ }
+    ensures { λ _. ⌜ now (out .exit) ≡ vertexLines columns 0 (take (net .«vertex_count») (net .vertices)) ++ edgeLines columns (take (net .«edge_count») (net .edges)) ⌝ }
 {
     let width = sheet::line_bytes(columns);
-    let count = net.edge_count as usize;
+    let count = net.vertex_count as usize + net.edge_count as usize;
     let mut at: usize = 0;
-    for i in 0..count {
-        let line = edge_line(net.edges[i]);
+    for j in 0..count {
+        let line = body_line(net, j);
         let end = at + width;
         line_values::write_line(&mut out[at..end], columns, line);
         at = end;
@@ -86,21 +83,19 @@ fn write_edges(out: &mut [u8], columns: usize, net: Net)
 // How many bytes the sheet of a record has.
 pub(crate) fn sheet_bytes(net: Net, columns: usize) -> usize
     requires { ⌜ Sized net × (columns ≤ mostColumns) ⌝ }
-    ensures { λ r. ⌜ r ≡ lineBytes columns * (1 + net .«vertex_count» + net .«edge_count») ⌝ }
+    ensures { λ r. ⌜ r ≡ lineBytes columns * (1 + (net .«vertex_count» + net .«edge_count»)) ⌝ }
 {
-    let lines = 1 + net.vertex_count as usize + net.edge_count as usize;
+    let lines = 1 + (net.vertex_count as usize + net.edge_count as usize);
     sheet::line_bytes(columns) * lines
 }
 
-// The sheet of a record: header, vertices, edges.
+// The sheet of a record: its header, then the other lines.
 pub(crate) fn write_sheet(out: &mut [u8], columns: usize, net: Net)
-    requires { ⌜ Sized net × (columns ≤ mostColumns) × (length (now out) ≡ lineBytes columns * (1 + net .«vertex_count» + net .«edge_count»)) ⌝ }
+    requires { ⌜ Sized net × (columns ≤ mostColumns) × (length (now out) ≡ lineBytes columns * (1 + (net .«vertex_count» + net .«edge_count»))) ⌝ }
     ensures { λ _. ⌜ now (out .exit) ≡ writeIn columns net ⌝ }
 {
     let first = sheet::line_bytes(columns);
-    let second = first * (1 + net.vertex_count as usize);
     let header = header_line(net);
     line_values::write_line(&mut out[..first], columns, header);
-    write_vertices(&mut out[first..second], columns, net);
-    write_edges(&mut out[second..], columns, net);
+    write_body(&mut out[first..], columns, net);
 }
