@@ -18,7 +18,7 @@ turned e = record { end1 = e .end2; end2 = e .end1; form = e .form; symbol = e .
 abbrev pub SameEdge : Edge → Edge → Type 0
 SameEdge e f = (e ≡ f) ⊎ (e ≡ turned f)
 
--- the same edges in another order: two neighbours are exchanged, edges are turned, and so on from there
+-- the same edges drawn otherwise: each one the same but for the order of its ends, or two neighbours exchanged; and one such change after another
 pub data Redrawn : List Edge → List Edge → Type 0 where
   nothing : Redrawn [] []
   also : {e f : Edge} {l m : List Edge} → SameEdge e f → Redrawn l m → Redrawn (e ∷ l) (f ∷ m)
