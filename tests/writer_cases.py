@@ -13,9 +13,9 @@ The kinds of cases, and what the program prints for each before the note:
   W  the record written in the agreed order: number, place and length, and from the next line on the whole lent buffer, which held question marks;
   O  the same in the record's own order;
   A  the same of the record that is read back from what was written in the agreed order;
-  T  the text of the program for the sheet: how many bytes it has, and from the next line on these.
+  T  the text of the program for the sheet: how many bytes it has and that they are the last, or that the buffer is short; from the next line on the text.
 
-The numbers of a case are the size of the lent buffer, and what is altered in the record before: a part of it, the place, counted from 0, and the value.
+The numbers of a case are the size of the lent buffer, and, of the calls that write a record, what is altered in the record before: a part of it, the place, counted from 0, and the value.
 """
 import copy
 
@@ -25,6 +25,8 @@ from writer_model import Record
 
 AGREED, OWN, AGAIN = b"W", b"O", b"A"
 UNTOUCHED = b"?"
+# The longest sheet: 1 + 96 + 192 lines.
+MOST_BYTES = 6069
 
 # The parts of a record that a case may alter.
 LABEL, SYMBOL, VERTEX_COUNT, EDGE_COUNT, LETTER_COUNT = range(1, 6)
@@ -84,10 +86,16 @@ def refused(number, note, size, kind=AGREED, **alteration):
     writing(kind, number, b"", note, size, **alteration)
 
 
-def program_text(expected, note):
-    """The program prints the sheet in the agreed order, or the number and the place between two zeros."""
+def program_text(expected, note, size=MOST_BYTES):
+    """The program prints the sheet in the agreed order, or the number and the place between two zeros; the call wants room for any sheet."""
     assert expected == (field(0) + field(ANSWER[0]) + field(ANSWER[1]) + field(0) + b"\n" if ANSWER else RECORD.agreed()), note
-    case(b"T", field(len(expected)) + b"\n" + expected, note)
+    assert MOST_BYTES <= size, note
+    case(b"T", b"last %d\n" % len(expected) + expected, note, (size,))
+
+
+def no_text(note, size):
+    assert size < MOST_BYTES, note
+    case(b"T", b"short\n", note, (size,))
 
 
 # Document 01's net, drawn from the top to the bottom.
@@ -115,6 +123,9 @@ refused(51, "row 51: no byte", 0)
 written(WORKED_AGREED, "once more: the same bytes", AGAIN, beyond=3)
 written(WORKED, "own order: the bytes that were read", OWN)
 program_text(WORKED_AGREED, "the text is the sheet in the agreed order, 189 bytes")
+program_text(WORKED_AGREED, "the same in a longer buffer", MOST_BYTES + 21)
+no_text("one byte less than any sheet may need is short, though this one has 189", MOST_BYTES - 1)
+no_text("no byte is short", 0)
 written(WORKED, "own order, beyond: the last ten bytes of 199 stay", OWN, beyond=10)
 refused(51, "own order, row 51: 188 bytes are one too few, and none is written", 188, OWN)
 refused(51, "own order, row 51: no byte", 0, OWN)
@@ -242,6 +253,7 @@ refused(41, "own order: row 41", 200, OWN)
 refused(41, "own order: row 41 comes before row 51", 0, OWN)
 refused(41, "once more: nothing was written, and no sheet has no byte", 50, AGAIN)
 program_text(b"   0  16   9   0\n", "the text is one line: 0, row 16, its place line 9, and 0")
+no_text("short comes before any row of the sheet", MOST_BYTES - 1)
 net("no byte: row 11, the empty record", b"", 11)
 refused(41, "row 41: the empty record", 21)
 program_text(b"   0  11   0   0\n", "a missing file reads as empty: row 11, place 0")
@@ -315,10 +327,11 @@ RISING += [(95, 96, form, letter(1)) for form in (N, P, N_PRIMED, P_PRIMED)]
 MOST_VERTICES = [ZERO, ONE] + [STORAGE] * 93 + [OUTPUT]
 MOST_AGREED = sheet(8, MOST_VERTICES, RISING)
 MOST_FALLING = sheet(8, MOST_VERTICES, [(b, a, form, symbol) for a, b, form, symbol in RISING[::-1]])
-assert len(MOST_AGREED) == 6069
+assert len(MOST_AGREED) == MOST_BYTES
 
 net("96 vertices, 192 edges, 8 letters, 12 key nodes; edges falling, every end turned", MOST_FALLING)
 written(MOST_AGREED, "turning and order: the edges rising; length 6,069, the most that a sheet has")
+program_text(MOST_AGREED, "the longest text")
 written(MOST_AGREED, "beyond: 21 bytes stay", beyond=21)
 refused(51, "row 51: 6,068 bytes", 6068)
 written(MOST_AGREED, "once more: the same bytes", AGAIN)

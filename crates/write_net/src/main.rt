@@ -27,6 +27,9 @@ fn main() {
     let size = files::read(net, b"write_net: net", &mut buffer);
     libc::close(net);
     let mut out = text_buffer();
-    let length = writer_text::text(&buffer[..size], &mut out);
-    files::write(b"write_net: output", &out[..length]);
+    let written = writer_text::text(&buffer[..size], &mut out);
+    files::write(
+        b"write_net: output",
+        report_turns::written_part(written, &out),
+    );
 }

@@ -87,13 +87,37 @@ fn print_own(net: Net, buffer: &mut [u8]) {
     print_written(written, buffer);
 }
 
-// The text of the program for the bytes of a sheet: how many bytes it has; then, from the next line on, these.
-fn print_text(sheet: &[u8]) {
-    let mut buffer = sheet_buffer();
-    let length = writer_text::text(sheet, &mut buffer);
-    print_column(length as u64);
+// What the call for the text of the program says: how many bytes it wrote and that nothing is to follow, or that the buffer is short.
+fn print_said(said: output::Written) {
+    match said {
+        output::Written::Last(count) => {
+            io::write_all(STDOUT_FILENO, b"last ");
+            io::print_decimal(STDOUT_FILENO, count as u64);
+        }
+        output::Written::Bytes(count) => {
+            io::print_decimal(STDOUT_FILENO, count as u64);
+        }
+        output::Written::Short => {
+            io::write_all(STDOUT_FILENO, b"short");
+        }
+    }
     io::write_all(STDOUT_FILENO, b"\n");
-    io::write_all(STDOUT_FILENO, &buffer[..length]);
+}
+
+// The text of the program for the bytes of a sheet: what is said of it; then, from the next line on, what the program writes.
+fn print_text<'a, 'b>(sheet: &'a [u8], buffer: &'b mut [u8]) {
+    let said = writer_text::text(sheet, buffer);
+    print_said(said);
+    io::write_all(STDOUT_FILENO, report_turns::written_part(said, buffer));
+}
+
+// The text in a buffer of the size that the case at a place gives.
+fn run_text<'a>(cases: &'a [u8], at: usize, sheet: &'a [u8])
+    requires { ⌜ at < length (now cases) ⌝ }
+{
+    let mut buffer = sheet_buffer();
+    let size = size_at(cases, at + Case::FIRST, &buffer);
+    print_text(sheet, &mut buffer[..size]);
 }
 
 // The record that is read from what is written in the agreed order.
@@ -192,13 +216,13 @@ fn run_writing(cases: &[u8], at: usize, net: Net)
 }
 
 // The answer of the case at a place, by its kind, for a sheet.
-fn print_answer(cases: &[u8], at: usize, sheet: &[u8])
+fn print_answer<'a>(cases: &'a [u8], at: usize, sheet: &'a [u8])
     requires { ⌜ at < length (now cases) ⌝ }
 {
     let reading = reader::read(sheet);
     match cases[at] {
         b'N' => print_place(reading.answer),
-        b'T' => print_text(sheet),
+        b'T' => run_text(cases, at, sheet),
         _ => run_writing(cases, at, reading.net),
     }
 }
