@@ -1,9 +1,11 @@
 //! The files of a program. What cannot be opened, read or written is told on standard error; what cannot be opened or read counts as the end of the file.
 
 ghost use Prim.Native.Nat.{_≤_};
+ghost use mathlib.Core.Path.{_≡_};
+ghost use mathlib.Core.Bool.{true};
 ghost use lib.ListN.{length};
 ghost use Rattle.io.specs.Counts.{Counts};
-ghost use Rattle.files.specs.Reads.{Within};
+ghost use Rattle.files.specs.Reads.{Opened, Within};
 use libc::STDOUT_FILENO;
 
 // How often a read that a signal interrupted is tried again; what is proved to end cannot try for ever.
@@ -16,13 +18,19 @@ enum Got {
     Failed,
 }
 
+// The answer for a file that could not be opened; descriptors are not negative.
+const NO_FILE: i32 = -1;
+
 // Opens a file for reading. What is told where that fails is the program's name and the file's.
-pub fn open<'a>(name: &'a [u8], told: &'a [u8]) -> i32 {
+pub fn open<'a>(name: &'a [u8], told: &'a [u8]) -> i32
+    ensures { λ r. ⌜ Opened r ⌝ }
+{
     let file = os::open_read(name);
-    if file < 0 {
-        os::fail(told);
+    if file >= 0 {
+        return file;
     }
-    file
+    os::fail(told);
+    NO_FILE
 }
 
 fn read_once(file: i32, buffer: &mut [u8]) -> Got
@@ -81,8 +89,13 @@ pub fn read<'a, 'b>(file: i32, told: &'a [u8], buffer: &'b mut [u8]) -> usize
     done
 }
 
-// Writes a text to standard output, and answers whether all of it was written; a failure is told.
-pub fn write<'a>(told: &'a [u8], text: &'a [u8]) -> bool {
+// Writes a text to standard output, and answers whether all of it was written; a failure is told. Where there is nothing to write, nothing fails.
+pub fn write<'a>(told: &'a [u8], text: &'a [u8]) -> bool
+    ensures { λ r. ⌜ (length (now (text .entry)) ≡ 0 → r ≡ true) ⌝ }
+{
+    if text.len() == 0 {
+        return true;
+    }
     let is_written = io::write_all(STDOUT_FILENO, text);
     if !is_written {
         os::fail(told);
