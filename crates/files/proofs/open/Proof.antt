@@ -11,7 +11,6 @@ use Rattle.files.proofs.open.Statement.{statement}
 use Rattle.files.proofs.open.Tie as tie
 
 not-negative : (z : ℤ) → leZ (pos 0) z ≡ true → Opened z
-unfolding leZ
 not-negative (pos n) h = tt
 not-negative (negsuc n) h = absurd (false≢true h)
 
