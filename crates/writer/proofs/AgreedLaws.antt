@@ -30,10 +30,10 @@ use Rattle.sheet.proofs.RuleLaws.{no-edge}
 use Rattle.sheet.proofs.Validity.{Valid, valid-iff, counts-of}
 use Rattle.sheet.proofs.WriteLaws.{read-write-sheet}
 use Rattle.writer.specs.SameNet.{edgesOf, turned, SameNet}
-use Rattle.writer.specs.Sorting.{sort, sorted}
+use Rattle.writer.specs.Sorting.{sort}
 use Rattle.writer.specs.Agreed.{edgeUpTo, InAgreedOrder, lowFirst, orderedEdges, canonical, canonicalIn}
 use Rattle.writer.proofs.OrderLaws.{edge-trans, edge-total, edge-both}
-use Rattle.writer.proofs.SortingLaws.{sort-permuted, sort-sorted, sort-fixed, sorted-at, sorted-of, permuted-sort}
+use Rattle.writer.proofs.SortingLaws.{sorted, sort-permuted, sort-sorted, sort-fixed, sorted-at, sorted-of, permuted-sort}
 use Rattle.writer.proofs.Permuted.{permuted-length, permuted-all}
 use Rattle.writer.proofs.SameNetLaws.{redrawn-back, each-low, permuted-redrawn, redrawn-permuted, net-back, net-onward}
 use Rattle.writer.specs.SameNet.Redrawn.{onward}
