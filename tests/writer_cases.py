@@ -4,18 +4,19 @@
 Each case has a note: the words of C-11 that decide it (turning: the lower end of an edge comes first; order: low end, high end, form, symbol; vertices: as
 numbered; equal bytes: for records that differ in the order of edges and of ends alone; once more: reading what was written and writing it; length: the
 answer's last number; beyond: bytes that are not written stay; row 51: the buffer is shorter than the sheet), or document 01's row; for the text of the
-program `write_net` also docs/DECISIONS.md, point 99. Running this file writes
-the input and the expected output of the test program `writer_cases`. Numbers and sheets are worked out here by hand, those at the limits by how the
-drawings are made; writer_model.py then works each of them out from the definitions, and a difference stops the run. None is taken from the program.
+program `write_net` also docs/DECISIONS.md, point 99. Running this file writes the input and the expected output of the test program `writer_cases`. Numbers
+and sheets are worked out here by hand, those at the limits by how the drawings are made; writer_model.py then works each of them out from the definitions,
+and a difference stops the run. None is taken from the program.
 
 The kinds of cases, and what the program prints for each before the note:
   N  a sheet, kept for the cases that follow it: the reader's number and place;
   W  the record written in the agreed order: number, place and length, and from the next line on the whole lent buffer, which held question marks;
   O  the same in the record's own order;
   A  the same of the record that is read back from what was written in the agreed order;
-  T  the text of the program for the sheet: how many bytes it has and that they are the last, or that the buffer is short; from the next line on the text.
+  T  the text of the program for the sheet: how many bytes are written, none where the lent buffer is short; from the next line on these.
 
-The numbers of a case are the size of the lent buffer, and, of the calls that write a record, what is altered in the record before: a part of it, the place, counted from 0, and the value.
+The numbers of a case are the size of the lent buffer and, where a record is written, what is altered in it before: a part of it, the place, counted from 0,
+and the value.
 """
 import copy
 
@@ -90,12 +91,12 @@ def program_text(expected, note, size=MOST_BYTES):
     """The program prints the sheet in the agreed order, or the number and the place between two zeros; the call wants room for any sheet."""
     assert expected == (field(0) + field(ANSWER[0]) + field(ANSWER[1]) + field(0) + b"\n" if ANSWER else RECORD.agreed()), note
     assert MOST_BYTES <= size, note
-    case(b"T", b"last %d\n" % len(expected) + expected, note, (size,))
+    case(b"T", field(len(expected)) + b"\n" + expected, note, (size,))
 
 
 def no_text(note, size):
     assert size < MOST_BYTES, note
-    case(b"T", b"short\n", note, (size,))
+    case(b"T", field(0) + b"\n", note, (size,))
 
 
 # Document 01's net, drawn from the top to the bottom.

@@ -1,5 +1,6 @@
 //! Runs the cases of standard input through the writer of a record's sheet, in the agreed order and in the record's own, and prints each answer with the
-//! whole lent buffer before the case's note; and through the text of the program `write_net`. tests/writer_cases.py tells the numbers of a case and where each expected answer comes from.
+//! whole lent buffer before the case's note; and through the text of the program `write_net`. tests/writer_cases.py tells the numbers of a case and where
+//! each expected answer comes from.
 
 ghost use Prim.Native.Nat.{_<_};
 ghost use mathlib.Core.Path.{_≡_};
@@ -87,28 +88,13 @@ fn print_own(net: Net, buffer: &mut [u8]) {
     print_written(written, buffer);
 }
 
-// What the call for the text of the program says: how many bytes it wrote and that nothing is to follow, or that the buffer is short.
-fn print_said(said: output::Written) {
-    match said {
-        output::Written::Last(count) => {
-            io::write_all(STDOUT_FILENO, b"last ");
-            io::print_decimal(STDOUT_FILENO, count as u64);
-        }
-        output::Written::Bytes(count) => {
-            io::print_decimal(STDOUT_FILENO, count as u64);
-        }
-        output::Written::Short => {
-            io::write_all(STDOUT_FILENO, b"short");
-        }
-    }
-    io::write_all(STDOUT_FILENO, b"\n");
-}
-
-// The text of the program for the bytes of a sheet: what is said of it; then, from the next line on, what the program writes.
+// The text of the program for the bytes of a sheet: how many bytes the program writes, none where the buffer is short; then, from the next line on, these.
 fn print_text<'a, 'b>(sheet: &'a [u8], buffer: &'b mut [u8]) {
-    let said = writer_text::text(sheet, buffer);
-    print_said(said);
-    io::write_all(STDOUT_FILENO, report_turns::written_part(said, buffer));
+    let written = writer_text::text(sheet, buffer);
+    let text = report_turns::written_part(written, buffer);
+    print_column(text.len() as u64);
+    io::write_all(STDOUT_FILENO, b"\n");
+    io::write_all(STDOUT_FILENO, text);
 }
 
 // The text in a buffer of the size that the case at a place gives.
