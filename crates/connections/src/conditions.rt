@@ -56,7 +56,7 @@ fn usable_at(kind: Kind, form: u8, symbol: u16, bit: u8) -> u8
     )
 }
 
-// Row v takes one of two values, by column p.
+// Row v, which is an edge's and no vertex's, takes one of two values, by column p.
 fn choose_row<'a>(
     rows: &'a mut [u8],
     v: usize,
@@ -90,9 +90,9 @@ pub(crate) fn usable_lanes<'a, 'b>(
     let count = net.edge_count as usize;
     for i in 0..count {
         let edge = net.edges[i];
-        let y = lane_values::chosen(edge.end2, edge.end1, storage[edge.end1 as usize]) as usize;
-        if storage[y] == 1 {
-            let p = places[y * Symbol::BOUND + edge.symbol as usize];
+        let y = lane_values::chosen(edge.end2, edge.end1, storage[edge.end1 as usize]);
+        if storage[y as usize] == 1 {
+            let p = places[y as usize * Symbol::BOUND + edge.symbol as usize];
             let low = usable_at(kind, edge.form, edge.symbol, 0);
             let high = usable_at(kind, edge.form, edge.symbol, 1);
             choose_row(on, i, columns, p as usize, low, high);

@@ -22,7 +22,7 @@ fn raised(on: u8, from: u8, mark: u8) -> u8
 // Row v of the marks is set where edge i is on and column p chooses 1.
 pub(crate) fn mark_row<'a>(
     marks: &'a mut [u8],
-    v: usize,
+    v: u8,
     on: &'a [u8],
     i: usize,
     columns: &'a [u8; Net::COLUMN_LANES],
@@ -33,7 +33,7 @@ pub(crate) fn mark_row<'a>(
     requires { ⌜ (suc v * spec.assignments ≤ length (now marks)) × (suc i * spec.assignments ≤ length (now on)) × (p ≤ mostSignals) × (now columns ≡ spec.columns) ⌝ }
     ensures { λ r. ⌜ now (marks .exit) ≡ spec.markRow (now (on .entry)) i v p low high (now (marks .entry)) ⌝ }
 {
-    let to = v * Net::ASSIGNMENTS;
+    let to = v as usize * Net::ASSIGNMENTS;
     let edge = i * Net::ASSIGNMENTS;
     let from = p * Net::ASSIGNMENTS;
     for w in 0..Net::ASSIGNMENTS {
@@ -46,12 +46,12 @@ pub(crate) fn mark_row<'a>(
 }
 
 // Row v of the marks is set where edge i is on and row u is set.
-pub(crate) fn raise_row<'a, 'b>(marks: &'a mut [u8], u: usize, v: usize, on: &'b [u8], i: usize)
+pub(crate) fn raise_row<'a, 'b>(marks: &'a mut [u8], u: u8, v: u8, on: &'b [u8], i: usize)
     requires { ⌜ (suc u * spec.assignments ≤ length (now marks)) × (suc v * spec.assignments ≤ length (now marks)) × (suc i * spec.assignments ≤ length (now on)) ⌝ }
     ensures { λ r. ⌜ now (marks .exit) ≡ spec.raiseRow (now (on .entry)) i u v (now (marks .entry)) ⌝ }
 {
-    let from = u * Net::ASSIGNMENTS;
-    let to = v * Net::ASSIGNMENTS;
+    let from = u as usize * Net::ASSIGNMENTS;
+    let to = v as usize * Net::ASSIGNMENTS;
     let edge = i * Net::ASSIGNMENTS;
     for w in 0..Net::ASSIGNMENTS {
         marks[to + w] = raised(on[edge + w], marks[from + w], marks[to + w]);
@@ -69,12 +69,12 @@ fn gap(on: u8, x: u8, y: u8) -> u8
 }
 
 // Do rows u and v have the same marks wherever edge i is on? Every lane is looked at: the loop has no branch.
-pub(crate) fn is_level<'a>(marks: &'a [u8], u: usize, v: usize, on: &'a [u8], i: usize) -> bool
+pub(crate) fn is_level<'a>(marks: &'a [u8], u: u8, v: u8, on: &'a [u8], i: usize) -> bool
     requires { ⌜ (suc u * spec.assignments ≤ length (now marks)) × (suc v * spec.assignments ≤ length (now marks)) × (suc i * spec.assignments ≤ length (now on)) ⌝ }
     ensures { λ r. ⌜ r ≡ spec.level (now (on .entry)) i (now (marks .entry)) u v ⌝ }
 {
-    let first = u * Net::ASSIGNMENTS;
-    let second = v * Net::ASSIGNMENTS;
+    let first = u as usize * Net::ASSIGNMENTS;
+    let second = v as usize * Net::ASSIGNMENTS;
     let edge = i * Net::ASSIGNMENTS;
     let mut found: u8 = 0;
     for w in 0..Net::ASSIGNMENTS {

@@ -43,11 +43,11 @@ fn driven<'a>(
     for i in 0..count {
         let edge = net.edges[i];
         let flag = storage[edge.end1 as usize];
-        let y = lane_values::chosen(edge.end2, edge.end1, flag) as usize;
-        let x = lane_values::chosen(edge.end1, edge.end2, flag) as usize;
-        if storage[y] == 1 && storage[x] != 1 {
-            let label = inputs[x];
-            let p = places[y * Symbol::BOUND + label as usize];
+        let y = lane_values::chosen(edge.end2, edge.end1, flag);
+        let x = lane_values::chosen(edge.end1, edge.end2, flag);
+        if storage[y as usize] == 1 && storage[x as usize] != 1 {
+            let label = inputs[x as usize];
+            let p = places[y as usize * Symbol::BOUND + label as usize];
             let low = label_hits(label, 0, value);
             let high = label_hits(label, 1, value);
             lane_marks::mark_row(&mut marks, y, on, i, columns, p as usize, low, high);
@@ -60,8 +60,8 @@ fn driven<'a>(
 // than carrying.
 fn carry<'a, 'b>(
     marks: &'a mut [u8; Net::VERTEX_LANES],
-    u: usize,
-    v: usize,
+    u: u8,
+    v: u8,
     on: &'b [u8; Net::EDGE_LANES],
     i: usize,
 ) -> bool
@@ -100,9 +100,9 @@ fn sweep<'a, 'b>(
     for n in 0..count {
         let i = turned(back, count, n);
         let edge = net.edges[i];
-        let u = edge.end1 as usize;
-        let v = edge.end2 as usize;
-        if storage[u] == 1 && storage[v] == 1 {
+        let u = edge.end1;
+        let v = edge.end2;
+        if storage[u as usize] == 1 && storage[v as usize] == 1 {
             if !carry(marks, u, v, on, i) {
                 closed = false;
             }

@@ -4,7 +4,8 @@ use borrow.Author.Needs.{needs}
 use mathlib.Core.Path.{_≡_, sym, ap, _∙_}
 use mathlib.Core.Bool.{true, false}
 use mathlib.Core.Logic.{⊎-elim}
-use Prim.Native.Nat.{suc, _+_, _*_, _≤_, _<_, _-_}
+use mathlib.Core.List.{List}
+use Prim.Native.Nat.{ℕ, suc, _+_, _*_, _≤_, _<_, _-_}
 use lib.Dec.{eqb}
 use lib.ListN.{length, getD}
 use borrow.Author.Tests.{eq-eqb, ne-eqb, not-true, not-false}
@@ -27,89 +28,106 @@ Inv-loop storage inputs places columns on value net marks₀ count i₀ marks i 
 abbrev μ-loop : tie.MeasureT-loop
 μ-loop storage inputs places columns on value net marks₀ count i₀ marks i = count - i
 
+-- places of the run, each found from the next: the start, the turn of the loop, the choice of x after that of y, the tests of both, the place of the signal
+abbrev start : tie.In-loop Inv-loop μ-loop → tie.Start Inv-loop μ-loop
+start c = c .before .before
+
+abbrev in-loop : tie.After-flag Inv-loop μ-loop → tie.In-loop Inv-loop μ-loop
+in-loop c = c .before .before .before
+
+abbrev x-chosen : tie.Then1 Inv-loop μ-loop → tie.After-chosen2 Inv-loop μ-loop
+x-chosen c = c .before .before
+
+abbrev y-tested : tie.Then2 Inv-loop μ-loop → tie.Then1 Inv-loop μ-loop
+y-tested c = c .before .before
+
+abbrev x-tested : tie.After-p Inv-loop μ-loop → tie.Then2 Inv-loop μ-loop
+x-tested c = c .before .before
+
+abbrev placed : tie.After-marks Inv-loop μ-loop → tie.After-p Inv-loop μ-loop
+placed c = c .before .before .before
+
 -- the first end of edge i
-first-end : (c : tie.In-loop Inv-loop μ-loop) → (getD (c .before .before .args .t1 .edges) (c .before .loop .i) noEdge) .end1 ≤ mostVertices
+first-end : (c : tie.In-loop Inv-loop μ-loop) → (getD (start c .args .t1 .edges) (c .before .loop .i) noEdge) .end1 ≤ mostVertices
 unfolding edgeAt
-first-end c = c .before .before .pre .0 .readable .first-end (c .before .loop .i) (c .loop-test .taken)
+first-end c = start c .pre .0 .readable .first-end (c .before .loop .i) (c .loop-test .taken)
 
 -- the ends that are chosen
-owned : (c : tie.After-chosen Inv-loop μ-loop) → (let t = c .before .before .before .before in let N = t .before .before .args .t1 in c .chosen .result ≡ owner N (edgeAt N (t .before .loop .i)))
+owned : (c : tie.After-chosen Inv-loop μ-loop) → (let t = in-loop (c .before) in let N = start t .args .t1 in c .chosen .result ≡ owner N (edgeAt N (t .before .loop .i)))
 unfolding edgeAt
 owned c =
-    let t = c .before .before .before .before in
-    let s = t .before .before in
+    let t = in-loop (c .before) in
+    let s = start t in
     c .chosen .ensures ∙ owner-chosen (s .args .t1) (s .args .storage .now) (s .pre .1) _ (first-end t)
 
-opposite : (c : tie.After-chosen2 Inv-loop μ-loop) → (let t = c .before .before .before .before .before in let N = t .before .before .args .t1 in c .chosen2 .result ≡ other N (edgeAt N (t .before .loop .i)))
+opposite : (c : tie.After-chosen2 Inv-loop μ-loop) → (let t = in-loop (c .before .before) in let N = start t .args .t1 in c .chosen2 .result ≡ other N (edgeAt N (t .before .loop .i)))
 unfolding edgeAt
 opposite c =
-    let t = c .before .before .before .before .before in
-    let s = t .before .before in
+    let t = in-loop (c .before .before) in
+    let s = start t in
     c .chosen2 .ensures ∙ other-chosen (s .args .t1) (s .args .storage .now) (s .pre .1) _ (first-end t)
 
 -- both stand in a table of vertices
 y-range : (c : tie.After-chosen Inv-loop μ-loop) → c .chosen .result ≤ mostVertices
 y-range c =
-    let t = c .before .before .before .before in
-    rw (owned c) (owner-range _ (t .before .before .pre .0 .readable) (t .before .loop .i) (t .loop-test .taken))
+    let t = in-loop (c .before) in
+    rw (owned c) (owner-range _ (start t .pre .0 .readable) (t .before .loop .i) (t .loop-test .taken))
 
 x-range : (c : tie.After-chosen2 Inv-loop μ-loop) → c .chosen2 .result ≤ mostVertices
 x-range c =
-    let t = c .before .before .before .before .before in
-    rw (opposite c) (other-range _ (t .before .before .pre .0 .readable) (t .before .loop .i) (t .loop-test .taken))
+    let t = in-loop (c .before .before) in
+    rw (opposite c) (other-range _ (start t .pre .0 .readable) (t .before .loop .i) (t .loop-test .taken))
 
 -- the flags that the loop tests
-y-storage : (c : tie.After-chosen2 Inv-loop μ-loop) → (let t = c .before .before .before .before .before in let s = t .before .before in let N = s .args .t1 in
+y-storage : (c : tie.After-chosen2 Inv-loop μ-loop) → (let t = in-loop (c .before .before) in let s = start t in let N = s .args .t1 in
     isStorage N (owner N (edgeAt N (t .before .loop .i))) ≡ eqb (getD (s .args .storage .now) (c .before .chosen .result) 0) 1)
 y-storage c =
-    let s = c .before .before .before .before .before .before .before in
-    rw (← owned (c .before)) (sym (storage-test _ _ (s .pre .1) (c .before .chosen .result) (y-range (c .before))))
+    let y = c .before in
+    rw (← owned y) (sym (storage-test _ _ (start (in-loop (y .before)) .pre .1) (y .chosen .result) (y-range y)))
 
-x-storage : (c : tie.After-chosen2 Inv-loop μ-loop) → (let t = c .before .before .before .before .before in let s = t .before .before in let N = s .args .t1 in
+x-storage : (c : tie.After-chosen2 Inv-loop μ-loop) → (let t = in-loop (c .before .before) in let s = start t in let N = s .args .t1 in
     isStorage N (other N (edgeAt N (t .before .loop .i))) ≡ eqb (getD (s .args .storage .now) (c .chosen2 .result) 0) 1)
-x-storage c =
-    let s = c .before .before .before .before .before .before .before in
-    rw (← opposite c) (sym (storage-test _ _ (s .pre .1) (c .chosen2 .result) (x-range c)))
+x-storage c = rw (← opposite c) (sym (storage-test _ _ (start (in-loop (c .before .before)) .pre .1) (c .chosen2 .result) (x-range c)))
 
 -- the label opposite, and the place of its signal
-label : (c : tie.After-chosen2 Inv-loop μ-loop) → (let t = c .before .before .before .before .before in let s = t .before .before in let N = s .args .t1 in let i = t .before .loop .i in
+label : (c : tie.After-chosen2 Inv-loop μ-loop) → (let t = in-loop (c .before .before) in let s = start t in let N = s .args .t1 in let i = t .before .loop .i in
     isStorage N (other N (edgeAt N i)) ≡ false → getD (s .args .inputs .now) (c .chosen2 .result) 0 ≡ labelOf N i)
 label c sx =
-    let t = c .before .before .before .before .before in
-    let s = t .before .before in
+    let t = in-loop (c .before .before) in
+    let s = start t in
     label-read _ (s .pre .0) (t .before .loop .i) (t .loop-test .taken) sx (s .pre .2) (opposite c)
 
-place : (c : tie.After-chosen2 Inv-loop μ-loop) → (let t = c .before .before .before .before .before in let s = t .before .before in let N = s .args .t1 in let i = t .before .loop .i in
+place : (c : tie.After-chosen2 Inv-loop μ-loop) → (let t = in-loop (c .before .before) in let s = start t in let N = s .args .t1 in let i = t .before .loop .i in
     isStorage N (owner N (edgeAt N i)) ≡ true → isStorage N (other N (edgeAt N i)) ≡ false
     → getD (s .args .places .now) (c .before .chosen .result * symbolBound + getD (s .args .inputs .now) (c .chosen2 .result) 0) 0 ≡ signalIndex N (owner N (edgeAt N i)) (labelOf N i))
 place c sy sx =
-    let t = c .before .before .before .before .before in
-    let s = t .before .before in
+    let t = in-loop (c .before .before) in
+    let s = start t in
     let i = t .before .loop .i in
-    rw (owned (c .before), label c sx, s .pre .3)
-    (place-read _ _ _ sy (owner-range _ (s .pre .0 .readable) i (t .loop-test .taken)) (label-small _ (s .pre .0) i (t .loop-test .taken) sx))
+    ap (λ (places : List ℕ). getD places (c .before .chosen .result * symbolBound + getD (s .args .inputs .now) (c .chosen2 .result) 0) 0) (s .pre .3)
+    ∙ rw (owned (c .before), label c sx) (place-read _ _ _ sy (owner-range _ (s .pre .0 .readable) i (t .loop-test .taken)) (label-small _ (s .pre .0) i (t .loop-test .taken) sx))
 
 -- what both tests tell
-tested : (c : tie.Then2 Inv-loop μ-loop) → (let t = c .before .before .before .before .before .before .before .before .before in let N = t .before .before .args .t1 in let i = t .before .loop .i in
+tested : (c : tie.Then2 Inv-loop μ-loop) → (let t = in-loop (x-chosen (y-tested c) .before .before) in let N = start t .args .t1 in let i = t .before .loop .i in
     (isStorage N (owner N (edgeAt N i)) ≡ true) × (isStorage N (other N (edgeAt N i)) ≡ false))
 tested c =
-    let k = c .before .before .before .before in
-    (y-storage k ∙ eq-eqb _ _ (c .before .before .if1 .taken), x-storage k ∙ not-true _ (c .if2 .taken))
+    let k = x-chosen (y-tested c) in
+    (y-storage k ∙ eq-eqb _ _ (y-tested c .if1 .taken), x-storage k ∙ not-true _ (c .if2 .taken))
 
 -- the label is a symbol's number
-label-fits : (c : tie.Then2 Inv-loop μ-loop) → (let k = c .before .before .before .before in let s = k .before .before .before .before .before .before .before in getD (s .args .inputs .now) (k .chosen2 .result) 0 < symbolBound)
+label-fits : (c : tie.Then2 Inv-loop μ-loop) → (let k = x-chosen (y-tested c) in getD (start (in-loop (k .before .before)) .args .inputs .now) (k .chosen2 .result) 0 < symbolBound)
 label-fits c =
-    let k = c .before .before .before .before in
-    let t = k .before .before .before .before .before in
-    rw (label k (tested c .1)) (label-small _ (t .before .before .pre .0) (t .before .loop .i) (t .loop-test .taken) (tested c .1))
+    let k = x-chosen (y-tested c) in
+    let t = in-loop (k .before .before) in
+    rw (label k (tested c .1)) (label-small _ (start t .pre .0) (t .before .loop .i) (t .loop-test .taken) (tested c .1))
 
 -- it is a row of the columns
-place-few : (c : tie.Then2 Inv-loop μ-loop) → (let k = c .before .before .before .before in let s = k .before .before .before .before .before .before .before in
+place-few : (c : tie.Then2 Inv-loop μ-loop) → (let k = x-chosen (y-tested c) in let s = start (in-loop (k .before .before)) in
     getD (s .args .places .now) (k .before .chosen .result * symbolBound + getD (s .args .inputs .now) (k .chosen2 .result) 0) 0 ≤ mostSignals)
 place-few c =
-    let k = c .before .before .before .before in
-    let t = k .before .before .before .before .before in
-    rw (place k (tested c .0) (tested c .1)) (label-place _ (t .before .before .pre .0) (t .before .loop .i) (t .loop-test .taken) (tested c .1) (tested c .0))
+    let k = x-chosen (y-tested c) in
+    let t = in-loop (k .before .before) in
+    rw (place k (tested c .0) (tested c .1)) (label-place _ (start t .pre .0) (t .before .loop .i) (t .loop-test .taken) (tested c .1) (tested c .0))
 
 -- the table's length
 size : (c : tie.In-loop Inv-loop μ-loop) → length (c .before .loop .marks) ≡ suc mostVertices * assignments
@@ -122,10 +140,10 @@ loop-holds : tie.Need-loop-holds Inv-loop μ-loop
 loop-holds c = (search needs, driven-none _ _ _)
 
 mul-edge : tie.Need-mul-edge Inv-loop μ-loop
-mul-edge c = omega (arith, c .before .before .pre .0 .readable .edges)
+mul-edge c = omega (arith, start c .pre .0 .readable .edges)
 
 element-copy-out-edge : tie.Need-element-copy-out-edge Inv-loop μ-loop
-element-copy-out-edge c = omega (arith, c .before .before .pre .0 .readable .edges)
+element-copy-out-edge c = omega (arith, start c .pre .0 .readable .edges)
 
 cast-flag : tie.Need-cast-flag Inv-loop μ-loop
 cast-flag c = omega (arith, first-end (c .before .before))
@@ -136,38 +154,44 @@ element-copy-out-flag c = omega (arith, first-end (c .before .before))
 chosen-requires : tie.Need-chosen-requires Inv-loop μ-loop
 chosen-requires c κs = search needs
 
-cast-y : tie.Need-cast-y Inv-loop μ-loop
-cast-y c = omega (arith, y-range c)
-
 chosen-requires-2 : tie.Need-chosen-requires-2 Inv-loop μ-loop
 chosen-requires-2 c κs = search needs
 
-cast-x : tie.Need-cast-x Inv-loop μ-loop
-cast-x c = omega (arith, x-range c)
+cast-if1 : tie.Need-cast-if1 Inv-loop μ-loop
+cast-if1 c = omega (arith, y-range (c .before))
 
 element-copy-out-if1 : tie.Need-element-copy-out-if1 Inv-loop μ-loop
 element-copy-out-if1 c = omega (arith, y-range (c .before))
 
+cast-if2 : tie.Need-cast-if2 Inv-loop μ-loop
+cast-if2 c = omega (arith, x-range (x-chosen c))
+
 element-copy-out-if2 : tie.Need-element-copy-out-if2 Inv-loop μ-loop
-element-copy-out-if2 c = omega (arith, x-range (c .before .before))
+element-copy-out-if2 c = omega (arith, x-range (x-chosen c))
+
+cast-label : tie.Need-cast-label Inv-loop μ-loop
+cast-label c = omega (arith, x-range (x-chosen (y-tested c)))
 
 mul-label : tie.Need-mul-label Inv-loop μ-loop
-mul-label c = omega (arith, x-range (c .before .before .before .before))
+mul-label c = omega (arith, x-range (x-chosen (y-tested c)))
 
 element-copy-out-label : tie.Need-element-copy-out-label Inv-loop μ-loop
-element-copy-out-label c = omega (arith, x-range (c .before .before .before .before))
-
-mul-p : tie.Need-mul-p Inv-loop μ-loop
-mul-p c = omega (arith, y-range (c .before .before .before .before .before .before))
+element-copy-out-label c = omega (arith, x-range (x-chosen (y-tested c)))
 
 cast-p : tie.Need-cast-p Inv-loop μ-loop
-cast-p c = omega (arith, label-fits (c .before))
+cast-p c = omega (arith, y-range (x-chosen (y-tested (c .before)) .before))
+
+mul-p : tie.Need-mul-p Inv-loop μ-loop
+mul-p c = omega (arith, y-range (x-chosen (y-tested (c .before)) .before))
+
+cast-p-2 : tie.Need-cast-p-2 Inv-loop μ-loop
+cast-p-2 c = omega (arith, label-fits (c .before))
 
 add-p : tie.Need-add-p Inv-loop μ-loop
-add-p c = omega (arith, y-range (c .before .before .before .before .before .before), label-fits (c .before))
+add-p c = omega (arith, y-range (x-chosen (y-tested (c .before)) .before), label-fits (c .before))
 
 element-copy-out-p : tie.Need-element-copy-out-p Inv-loop μ-loop
-element-copy-out-p c = omega (arith, y-range (c .before .before .before .before .before .before), label-fits (c .before))
+element-copy-out-p c = omega (arith, y-range (x-chosen (y-tested (c .before)) .before), label-fits (c .before))
 
 label-hits-requires : tie.Need-label-hits-requires Inv-loop μ-loop
 label-hits-requires c κs = search needs
@@ -176,18 +200,20 @@ label-hits-requires-2 : tie.Need-label-hits-requires-2 Inv-loop μ-loop
 label-hits-requires-2 c κs = search needs
 
 slice-aggregate-mark-row : tie.Need-slice-aggregate-mark-row Inv-loop μ-loop
-slice-aggregate-mark-row c = sym (size (c .before .before .before .before .before .before .before .before .before .before .before .before .before .before))
+slice-aggregate-mark-row c = sym (size (in-loop (x-chosen (y-tested (x-tested (placed c))) .before .before)))
 
 cast-mark-row : tie.Need-cast-mark-row Inv-loop μ-loop
-cast-mark-row c = omega (arith, place-few (c .before .before .before .before .before .before))
+cast-mark-row c = omega (arith, place-few (x-tested (placed (c .before))))
 
 mark-row-requires : tie.Need-mark-row-requires Inv-loop μ-loop
 mark-row-requires c κs =
-    let t = c .before .before .before .before .before .before .before .before .before .before .before .before .before .before .before in
-    let s = t .before .before in (
-      omega (arith, size t, y-range (c .before .before .before .before .before .before .before .before .before .before .before)),
+    let k = x-tested (placed (c .before)) in
+    let y = x-chosen (y-tested k) .before in
+    let t = in-loop (y .before) in
+    let s = start t in (
+      omega (arith, size t, y-range y),
       omega (arith, c .mark-row-arg .given .0, s .pre .0 .readable .edges),
-      place-few (c .before .before .before .before .before .before),
+      place-few k,
       s .pre .4,
     )
 
@@ -200,8 +226,8 @@ loop-less c = search needs
 loop-again : tie.Need-loop-again Inv-loop μ-loop
 loop-again c =
     let k = c .before .before in
-    let t = k .before .before .before .before .before in
-    let s = t .before .before in
+    let t = in-loop (k .before .before) in
+    let s = start t in
     let i = t .before .loop .i in
     let e = t .before .loop .inv .1 in (
       search needs,
@@ -236,15 +262,17 @@ driven-spec =
     cast-flag
     element-copy-out-flag
     chosen-requires
-    cast-y
     chosen-requires-2
-    cast-x
+    cast-if1
     element-copy-out-if1
+    cast-if2
     element-copy-out-if2
+    cast-label
     mul-label
     element-copy-out-label
-    mul-p
     cast-p
+    mul-p
+    cast-p-2
     add-p
     element-copy-out-p
     label-hits-requires

@@ -4,7 +4,8 @@ use borrow.Author.Needs.{needs}
 use mathlib.Core.Path.{_≡_, sym, ap, _∙_}
 use mathlib.Core.Bool.{true}
 use mathlib.Core.Logic.{⊎-elim}
-use Prim.Native.Nat.{_+_, _*_, _≤_, _<_, _-_}
+use mathlib.Core.List.{List}
+use Prim.Native.Nat.{ℕ, _+_, _*_, _≤_, _<_, _-_}
 use lib.Dec.{eqb}
 use lib.ListN.{length, getD}
 use borrow.Author.Tests.{eq-eqb, ne-eqb}
@@ -28,49 +29,63 @@ Inv-loop on₀ storage places columns kind net count i₀ on i = (i ≤ count) �
 abbrev μ-loop : tie.MeasureT-loop
 μ-loop on₀ storage places columns kind net count i₀ on i = count - i
 
+-- places of the run, each found from the next: the start, the turn of the loop, the choice of y, its test, the place of the signal
+abbrev start : tie.In-loop Inv-loop μ-loop → tie.Start Inv-loop μ-loop
+start c = c .before .before
+
+abbrev in-loop : tie.After-chosen-arg Inv-loop μ-loop → tie.In-loop Inv-loop μ-loop
+in-loop c = c .before .before .before
+
+abbrev chosen : tie.Then1 Inv-loop μ-loop → tie.After-chosen Inv-loop μ-loop
+chosen c = c .before .before
+
+abbrev tested : tie.After-p Inv-loop μ-loop → tie.Then1 Inv-loop μ-loop
+tested c = c .before .before
+
+abbrev placed : tie.After-choose-row-arg Inv-loop μ-loop → tie.After-p Inv-loop μ-loop
+placed c = c .before .before .before
+
 -- the first end of edge i, and its symbol
-edge-known : (c : tie.In-loop Inv-loop μ-loop) → (let e = getD (c .before .before .args .t2 .edges) (c .before .loop .i) noEdge in (e .end1 ≤ mostVertices) × (e .symbol < symbolBound))
+edge-known : (c : tie.In-loop Inv-loop μ-loop) → (let e = getD (start c .args .t2 .edges) (c .before .loop .i) noEdge in (e .end1 ≤ mostVertices) × (e .symbol < symbolBound))
 unfolding edgeAt
-edge-known c = let fit = c .before .before .pre .0 in (fit .readable .first-end (c .before .loop .i) (c .loop-test .taken), symbol-bound _ (fit .known) (c .before .loop .i) (c .loop-test .taken))
+edge-known c = let fit = start c .pre .0 in (fit .readable .first-end (c .before .loop .i) (c .loop-test .taken), symbol-bound _ (fit .known) (c .before .loop .i) (c .loop-test .taken))
 
 -- the end that is chosen
-owned : (c : tie.After-chosen Inv-loop μ-loop) → (let t = c .before .before .before .before in let N = t .before .before .args .t2 in c .chosen .result ≡ owner N (edgeAt N (t .before .loop .i)))
+owned : (c : tie.After-chosen Inv-loop μ-loop) → (let t = in-loop (c .before) in let N = start t .args .t2 in c .chosen .result ≡ owner N (edgeAt N (t .before .loop .i)))
 unfolding edgeAt
 owned c =
-    let t = c .before .before .before .before in
-    let s = t .before .before in
+    let t = in-loop (c .before) in
+    let s = start t in
     c .chosen .ensures ∙ owner-chosen (s .args .t2) (s .args .storage .now) (s .pre .1) _ (edge-known t .0)
 
 in-table : (c : tie.After-chosen Inv-loop μ-loop) → c .chosen .result ≤ mostVertices
 in-table c =
-    let t = c .before .before .before .before in
-    rw (owned c) (owner-range _ (t .before .before .pre .0 .readable) (t .before .loop .i) (t .loop-test .taken))
+    let t = in-loop (c .before) in
+    rw (owned c) (owner-range _ (start t .pre .0 .readable) (t .before .loop .i) (t .loop-test .taken))
 
 -- the flag that the loop tests
-storage : (c : tie.After-if12 Inv-loop μ-loop) → (let t = c .before .before .before .before .before in let s = t .before .before in let N = s .args .t2 in
-    isStorage N (owner N (edgeAt N (t .before .loop .i))) ≡ eqb (getD (s .args .storage .now) (c .before .chosen .result) 0) 1)
-storage c =
-    let s = c .before .before .before .before .before .before .before in
-    rw (← owned (c .before)) (sym (storage-test _ _ (s .pre .1) (c .before .chosen .result) (in-table (c .before))))
+storage : (c : tie.After-chosen Inv-loop μ-loop) → (let t = in-loop (c .before) in let s = start t in let N = s .args .t2 in
+    isStorage N (owner N (edgeAt N (t .before .loop .i))) ≡ eqb (getD (s .args .storage .now) (c .chosen .result) 0) 1)
+storage c = rw (← owned c) (sym (storage-test _ _ (start (in-loop (c .before)) .pre .1) (c .chosen .result) (in-table c)))
 
 -- the place of the symbol's signal
-place : (c : tie.After-if12 Inv-loop μ-loop) → (let t = c .before .before .before .before .before in let s = t .before .before in let N = s .args .t2 in let e = getD (N .edges) (t .before .loop .i) noEdge in
-    isStorage N (owner N e) ≡ true → getD (s .args .places .now) (c .before .chosen .result * symbolBound + e .symbol) 0 ≡ signalIndex N (owner N e) (e .symbol))
+place : (c : tie.After-chosen Inv-loop μ-loop) → (let t = in-loop (c .before) in let s = start t in let N = s .args .t2 in let e = getD (N .edges) (t .before .loop .i) noEdge in
+    isStorage N (owner N e) ≡ true → getD (s .args .places .now) (c .chosen .result * symbolBound + e .symbol) 0 ≡ signalIndex N (owner N e) (e .symbol))
 unfolding edgeAt
 place c sy =
-    let t = c .before .before .before .before .before in
-    let s = t .before .before in
-    let i = t .before .loop .i in
-    rw (owned (c .before), s .pre .2) (place-read _ _ _ sy (owner-range _ (s .pre .0 .readable) i (t .loop-test .taken)) (edge-known t .1))
+    let t = in-loop (c .before) in
+    let s = start t in
+    ap (λ (places : List ℕ). getD places (c .chosen .result * symbolBound + (edgeAt (s .args .t2) (t .before .loop .i)) .symbol) 0) (s .pre .2)
+    ∙ rw (owned c) (place-read _ _ _ sy (owner-range _ (s .pre .0 .readable) (t .before .loop .i) (t .loop-test .taken)) (edge-known t .1))
 
 -- it is a row of the columns
-place-few : (c : tie.Then1 Inv-loop μ-loop) → (let t = c .before .before .before .before .before .before in let s = t .before .before in let e = getD (s .args .t2 .edges) (t .before .loop .i) noEdge in
-    getD (s .args .places .now) (c .before .before .chosen .result * symbolBound + e .symbol) 0 ≤ mostSignals)
+place-few : (c : tie.Then1 Inv-loop μ-loop) → (let t = in-loop (chosen c .before) in let s = start t in let e = getD (s .args .t2 .edges) (t .before .loop .i) noEdge in
+    getD (s .args .places .now) (chosen c .chosen .result * symbolBound + e .symbol) 0 ≤ mostSignals)
 unfolding edgeAt
 place-few c =
-    let t = c .before .before .before .before .before .before in
-    let sy = storage (c .before) ∙ eq-eqb _ _ (c .if1 .taken) in
-    rw (place (c .before) sy) (place-small _ _ _ (t .before .before .pre .0) sy (omega (arith, edge-known t)))
+    let t = in-loop (chosen c .before) in
+    let sy = storage (chosen c) ∙ eq-eqb _ _ (c .if1 .taken) in
+    rw (place (chosen c) sy) (place-small _ _ _ (start t .pre .0) sy (omega (arith, edge-known t)))
 
 -- the table's length
 size : (c : tie.In-loop Inv-loop μ-loop) → length (c .before .loop .on) ≡ mostEdges * assignments
@@ -83,10 +98,10 @@ loop-holds : tie.Need-loop-holds Inv-loop μ-loop
 loop-holds c = (search needs, c .pre .4 ∙ usable-none _ _)
 
 mul-edge : tie.Need-mul-edge Inv-loop μ-loop
-mul-edge c = omega (arith, c .before .before .pre .0 .readable .edges)
+mul-edge c = omega (arith, start c .pre .0 .readable .edges)
 
 element-copy-out-edge : tie.Need-element-copy-out-edge Inv-loop μ-loop
-element-copy-out-edge c = omega (arith, c .before .before .pre .0 .readable .edges)
+element-copy-out-edge c = omega (arith, start c .pre .0 .readable .edges)
 
 cast-chosen : tie.Need-cast-chosen Inv-loop μ-loop
 cast-chosen c = omega (arith, edge-known (c .before .before))
@@ -97,23 +112,26 @@ element-copy-out-chosen c = omega (arith, edge-known (c .before .before))
 chosen-requires : tie.Need-chosen-requires Inv-loop μ-loop
 chosen-requires c κs = search needs
 
-cast-y : tie.Need-cast-y Inv-loop μ-loop
-cast-y c = omega (arith, in-table c)
+cast-if1 : tie.Need-cast-if1 Inv-loop μ-loop
+cast-if1 c = omega (arith, in-table c)
 
 element-copy-out-if1 : tie.Need-element-copy-out-if1 Inv-loop μ-loop
 element-copy-out-if1 c = omega (arith, in-table c)
 
-mul-p : tie.Need-mul-p Inv-loop μ-loop
-mul-p c = omega (arith, in-table (c .before .before))
-
 cast-p : tie.Need-cast-p Inv-loop μ-loop
-cast-p c = omega (arith, edge-known (c .before .before .before .before .before .before .before))
+cast-p c = omega (arith, in-table (chosen c))
+
+mul-p : tie.Need-mul-p Inv-loop μ-loop
+mul-p c = omega (arith, in-table (chosen c))
+
+cast-p-2 : tie.Need-cast-p-2 Inv-loop μ-loop
+cast-p-2 c = omega (arith, edge-known (in-loop (chosen (c .before) .before)))
 
 add-p : tie.Need-add-p Inv-loop μ-loop
-add-p c = omega (arith, in-table (c .before .before .before), edge-known (c .before .before .before .before .before .before .before))
+add-p c = let y = chosen (c .before) in omega (arith, in-table y, edge-known (in-loop (y .before)))
 
 element-copy-out-p : tie.Need-element-copy-out-p Inv-loop μ-loop
-element-copy-out-p c = omega (arith, in-table (c .before .before .before), edge-known (c .before .before .before .before .before .before .before))
+element-copy-out-p c = let y = chosen (c .before) in omega (arith, in-table y, edge-known (in-loop (y .before)))
 
 usable-at-requires : tie.Need-usable-at-requires Inv-loop μ-loop
 usable-at-requires c κs = search needs
@@ -122,13 +140,14 @@ usable-at-requires-2 : tie.Need-usable-at-requires-2 Inv-loop μ-loop
 usable-at-requires-2 c κs = search needs
 
 cast-choose-row : tie.Need-cast-choose-row Inv-loop μ-loop
-cast-choose-row c = omega (arith, place-few (c .before .before .before .before .before))
+cast-choose-row c = omega (arith, place-few (tested (placed c)))
 
 choose-row-requires : tie.Need-choose-row-requires Inv-loop μ-loop
 choose-row-requires c κs =
-    let t = c .before .before .before .before .before .before .before .before .before .before .before in
-    let s = t .before .before in
-    (omega (arith, size t, s .pre .0 .readable .edges), place-few (c .before .before .before .before .before), s .pre .3)
+    let k = tested (placed c) in
+    let t = in-loop (chosen k .before) in
+    let s = start t in
+    (omega (arith, size t, s .pre .0 .readable .edges), place-few k, s .pre .3)
 
 add-i : tie.Need-add-i Inv-loop μ-loop
 add-i c = search needs
@@ -139,15 +158,16 @@ loop-less c = search needs
 loop-again : tie.Need-loop-again Inv-loop μ-loop
 unfolding edgeAt
 loop-again c =
-    let t = c .before .before .before .before .before .before in
-    let s = t .before .before in
+    let y = c .before .before in
+    let t = in-loop (y .before) in
+    let s = start t in
     let i = t .before .loop .i in
     let e = t .before .loop .inv .1 in (
       search needs,
       ⊎-elim
-          (λ w. let sy = storage (c .before) ∙ eq-eqb _ _ (w .0 .taken) in
-          w .7 ∙ usable-step (s .args .t2) (s .args .kind) (s .pre .0) i (t .loop-test .taken) sy (place (c .before) sy) (w .3 .ensures) (w .4 .ensures) e (w .6 .ensures))
-          (λ w. w .1 ∙ usable-skip (s .args .t2) (s .args .kind) i (storage (c .before) ∙ ne-eqb _ _ (w .0 .left)) e)
+          (λ w. let sy = storage y ∙ eq-eqb _ _ (w .0 .taken) in
+          w .7 ∙ usable-step (s .args .t2) (s .args .kind) (s .pre .0) i (t .loop-test .taken) sy (place y sy) (w .3 .ensures) (w .4 .ensures) e (w .6 .ensures))
+          (λ w. w .1 ∙ usable-skip (s .args .t2) (s .args .kind) i (storage y ∙ ne-eqb _ _ (w .0 .left)) e)
           (c .if1 .came),
     )
 
@@ -170,10 +190,11 @@ usable-lanes-spec =
     cast-chosen
     element-copy-out-chosen
     chosen-requires
-    cast-y
+    cast-if1
     element-copy-out-if1
-    mul-p
     cast-p
+    mul-p
+    cast-p-2
     add-p
     element-copy-out-p
     usable-at-requires
