@@ -161,6 +161,16 @@ def key_chain():
     return net
 
 
+def pairs():
+    """96 pairs between two storage vertices under one letter, all partners last: the most that row 21 has to count."""
+    net = Net(1)
+    x, y = net.vertex(1), net.vertex(1)
+    for form in (P_PRIMED, N):
+        for _ in range(96):
+            net.edge(x, y, form, letter(0))
+    return net
+
+
 NETS = {
     "small": small(),
     "limits": limits(),
@@ -170,4 +180,5 @@ NETS = {
     "chain, other order": chain(list),
     "chain, zigzag": chain(zigzag),
     "key chain": key_chain(),
+    "pairs": pairs(),
 }

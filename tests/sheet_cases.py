@@ -50,6 +50,16 @@ def seven(*more):
     return sheet((1, 3, 7 + len(more), 8, 1), (2, 1, 0, 0, 0), (2, 2, 1, 0, 0), (2, 3, 0, 18, 0), *[(3, 1, 2, 0, 11 + j) for j in range(7)], *more)
 
 
+def drawn(*edges):
+    """Document 01's vertices, and edges by their ends, form and symbol: the first is line 6."""
+    return sheet((1, 4, len(edges), 1, 1), *VERTICES, *[(3, *e) for e in edges])
+
+
+def side_by_side(*forms):
+    """Edges of these forms between two storage vertices, under the letter: the first is line 4."""
+    return sheet((1, 2, len(forms), 1, 1), (2, 1, 1, 0, 0), (2, 2, 1, 0, 0), *[(3, 1, 2, form, 11) for form in forms])
+
+
 ONE = line(*HEADER)
 
 
@@ -161,11 +171,37 @@ read(0, 0, "forms 0 and 1 may have symbol 0 or 1", worked(l6=(3, 2, 3, 1, 1)))
 read(15, 3, "each later line in turn: 15 on line 3 before 12 on line 4", worked(l3=(2, 2, 3, 1, 0), l4=b"x" * 20 + b"\n"))
 read(12, 3, "each later line in turn: 12 on line 3 before 15 on line 4", worked(l3=b"x" * 20 + b"\n", l4=(2, 3, 3, 0, 0)))
 read(21, 8, "row 21: form 3 without a form 0 edge of the same symbol and ends", worked(l8=(3, 3, 4, 3, 11)))
-read(21, 6, "row 21: the first such edge's line", worked(l6=(3, 2, 3, 2, 103), l7=(3, 2, 3, 2, 11)))
-read(0, 0, "a parallel edge has the same two ends in either order", worked(l8=(3, 3, 4, 3, 11), l9=(3, 4, 3, 0, 11)))
-read(0, 0, "one partner may serve several", worked(l6=(3, 3, 4, 3, 11), l8=(3, 3, 4, 3, 11), l9=(3, 4, 3, 0, 11)))
 read(21, 8, "row 21: a partner has the same symbol", worked(l8=(3, 3, 4, 3, 11), l9=(3, 4, 3, 0, 103)))
 read(21, 8, "row 21: form 3 needs form 0, not form 1", worked(l8=(3, 3, 4, 3, 11), l9=(3, 4, 3, 1, 11)))
+
+# Document 02, C-13: between any two vertices and for each symbol, form 2 does not outnumber form 1, nor form 3 form 0; the place is the first line whose
+# primed form, counted in file order, exceeds its partners on the whole sheet. In each sheet below the edges join 3 and 4 unless the note says otherwise.
+read(0, 0, "between two vertices: in either order of the ends", drawn((3, 4, 3, 11), (4, 3, 0, 11)))
+read(0, 0, "on the whole sheet: a partner after its edge", drawn((3, 4, 3, 11), (3, 4, 0, 11)))
+read(0, 0, "on the whole sheet: a partner before its edge", drawn((3, 4, 0, 11), (3, 4, 3, 11)))
+read(0, 0, "form 2 does not outnumber form 1", drawn((3, 4, 2, 11), (3, 4, 1, 11)))
+read(0, 0, "must not outnumber: as many partners, all of them after, ends in either order", drawn((3, 4, 3, 11), (4, 3, 3, 11), (4, 3, 0, 11), (3, 4, 0, 11)))
+read(0, 0, "must not outnumber: more partners than edges of the primed form", drawn((3, 4, 0, 11), (4, 3, 3, 11), (4, 3, 0, 11), (3, 4, 0, 11)))
+read(0, 0, "forms 0 and 1 need no partner", drawn((3, 4, 0, 11), (3, 4, 0, 11), (3, 4, 1, 11)))
+read(0, 0, "for each symbol: a pair under the letter and one under vertex 3", drawn((3, 4, 3, 11), (3, 4, 3, 103), (3, 4, 0, 11), (4, 3, 0, 103)))
+read(0, 0, "both transmission gates: form 2 with form 1, form 3 with form 0", drawn((3, 4, 2, 11), (3, 4, 3, 11), (3, 4, 1, 11), (3, 4, 0, 11)))
+read(21, 8, "row 21: one partner does not serve two; the second edge is one too many", worked(l6=(3, 3, 4, 3, 11), l8=(3, 3, 4, 3, 11), l9=(3, 4, 3, 0, 11)))
+read(21, 8, "row 21: the third edge of form 3 over two partners", drawn((3, 4, 3, 11), (4, 3, 3, 11), (3, 4, 3, 11), (3, 4, 0, 11), (4, 3, 0, 11)))
+read(21, 8, "row 21: the third edge of form 2 over two partners", drawn((3, 4, 2, 11), (4, 3, 2, 11), (3, 4, 2, 11), (3, 4, 1, 11), (4, 3, 1, 11)))
+read(21, 7, "row 21: the first line that exceeds its partners, not the last of three over one", drawn((3, 4, 3, 11), (3, 4, 3, 11), (3, 4, 3, 11), (3, 4, 0, 11)))
+read(21, 9, "row 21: counted in file order, lines between them not counted",
+     drawn((3, 4, 3, 11), (3, 4, 0, 11), (2, 3, 1, 11), (4, 3, 3, 11)))
+read(21, 7, "row 21: an edge in the other direction counts too", drawn((3, 4, 3, 11), (4, 3, 3, 11), (3, 4, 0, 11)))
+read(21, 7, "row 21: for each symbol, so the second partner is under another", drawn((3, 4, 3, 11), (3, 4, 3, 11), (3, 4, 0, 11), (3, 4, 0, 103)))
+read(21, 7, "row 21: between the same two vertices, so the second partner is between 4 and 1", drawn((3, 4, 3, 11), (3, 4, 3, 11), (3, 4, 0, 11), (4, 1, 0, 11)))
+read(21, 7, "row 21: form 2 takes form 1 alone, though a form 0 edge is left", drawn((3, 4, 2, 11), (3, 4, 2, 11), (3, 4, 1, 11), (3, 4, 0, 11)))
+read(21, 6, "row 21: the first line, where form 3 exceeds and a later form 2 does too", drawn((3, 4, 3, 11), (3, 4, 2, 11)))
+read(21, 6, "row 21: the first line, where form 2 exceeds and a later form 3 does too", drawn((3, 4, 2, 11), (3, 4, 3, 11)))
+read(21, 6, "row 21: the first line, of two symbols between 2 and 3", worked(l6=(3, 2, 3, 2, 103), l7=(3, 2, 3, 2, 11)))
+read(0, 0, "96 pairs between two vertices", side_by_side(*[3] * 96, *[0] * 96))
+read(0, 0, "96 pairs between two vertices, half of each kind, line by line", side_by_side(*[3, 2, 1, 0] * 48))
+read(21, 99, "row 21: 97 edges over 95 partners, the 96th is one too many", side_by_side(*[3] * 97, *[0] * 95))
+read(21, 194, "row 21: 97 edges over 95 partners, all of these before them", side_by_side(*[1] * 95, *[2] * 97))
 read(0, 0, "a key node may be the symbol only of an edge between input vertices",
      sheet((1, 3, 1, 0, 1), (2, 1, 0, 0, 0), (2, 2, 0, 1, 0), (2, 3, 1, 0, 0), (3, 1, 2, 0, 103)))
 read(0, 0, "twelve key nodes pass", keyed(12))

@@ -312,6 +312,17 @@ written(b"   1   4   4   1   1\n" + KIND_LINES + b"""\
 net("a transmission gate under letter 1, with an edge under letter 2 beside it",
     sheet(2, KINDS, [(1, 3, N, letter(2))] + pass_on(4, 3, letter(1))))
 refused(41, "row 41: by row 21, the partner under another letter", 200, part=SYMBOL, place=1, value=12)
+net("two transmission gates side by side, under letters 1 and 2, an edge under letter 1 beside them",
+    sheet(2, KINDS, pass_on(4, 3, letter(1)) + pass_on(3, 4, letter(2)) + [(4, 3, N, letter(1))]))
+refused(41, "row 41: by row 21, one partner under letter 2 for two", 230, part=SYMBOL, place=1, value=12)
+refused(41, "row 41: by row 21, no partner under letter 2", 230, part=SYMBOL, place=2, value=11)
+written(b"   1   4   5   2   1\n" + KIND_LINES + b"""\
+   3   3   4   0  11
+   3   3   4   0  11
+   3   3   4   0  12
+   3   3   4   3  11
+   3   3   4   3  11
+""", "a record of a sheet: two pairs under letter 1, by C-13 as many partners", part=SYMBOL, place=3, value=11)
 TWELVE = [(1, v, N, vertex(v)) for v in range(2, 14)]
 net("twelve key nodes, and an edge under one of them", sheet(0, [ZERO] + [STORAGE] * 13, TWELVE + [(14, 1, N, vertex(2))]))
 refused(41, "row 41: by row 22, a thirteenth key node", 600, part=SYMBOL, place=12, value=vertex(14))

@@ -1,6 +1,8 @@
 """A plain model of request C-11, to check the sheets that are written out by hand: a record, whether some accepted sheet gives it, and its sheet in the
 agreed order and in its own. It reads no sheet that the reader refuses.
 """
+from collections import Counter
+
 import settle_model
 from sheets import sheet
 
@@ -8,7 +10,7 @@ MOST_VERTICES, MOST_EDGES, MOST_LETTERS, MOST_KEY_NODES, MOST_SIGNALS = 96, 192,
 INPUT = 0
 ROLES = 3
 FORMS = 4
-# A primed form, and the form of the partner that it needs.
+# A primed form, and the form of its partners.
 PARTNER = {2: 1, 3: 0}
 
 
@@ -32,12 +34,12 @@ class Record:
         return sheet(self.letter_count, self.vertices[:self.vertex_count], sorted(turned))
 
     def is_accepted(self):
-        """Is it the record of an accepted sheet? The rows are those of document 01; what is not in use is zero."""
+        """Is it the record of an accepted sheet? The rows are those of document 01, as request C-13 has row 21; what is not in use is zero."""
         return (1 <= self.vertex_count <= MOST_VERTICES and self.edge_count <= MOST_EDGES and self.letter_count <= MOST_LETTERS
                 and all(self.allows_vertex(*v) for v in self.vertices[:self.vertex_count])
                 and all(self.allows_edge(*e) for e in self.edges[:self.edge_count])
                 and not any(map(any, self.vertices[self.vertex_count:] + self.edges[self.edge_count:]))
-                and all(self.has_partner(*e) for e in self.edges[:self.edge_count]) and self.allows_signals())
+                and self.is_paired() and self.allows_signals())
 
     def is_label(self, symbol):
         return symbol in (0, 1) or 11 <= symbol <= 10 + self.letter_count
@@ -52,8 +54,10 @@ class Record:
         return (a != b and all(1 <= v <= self.vertex_count for v in (a, b)) and form < FORMS and self.is_symbol(symbol)
                 and not (form in PARTNER and symbol in (0, 1)))
 
-    def has_partner(self, a, b, form, symbol):
-        return form not in PARTNER or any({c, d} == {a, b} and (f, s) == (PARTNER[form], symbol) for c, d, f, s in self.edges)
+    def is_paired(self):
+        """Between any two vertices and for each symbol, a primed form does not outnumber its partners (request C-13)."""
+        drawn = Counter((frozenset((a, b)), symbol, form) for a, b, form, symbol in self.edges[:self.edge_count])
+        return all(many <= drawn.get((ends, symbol, PARTNER[form]), 0) for (ends, symbol, form), many in drawn.items() if form in PARTNER)
 
     def allows_signals(self):
         net = settle_model.Net(self.own())

@@ -1,11 +1,11 @@
-// Row 21: an edge of a primed form needs a partner.
+// Row 21: each edge of a primed form needs a partner of its own.
 
 ghost use mathlib.Core.Path.{_≡_};
-ghost use Prim.Native.Nat.{ℕ, _≤_, _<_};
-ghost use Rattle.ternary.specs.Lists.{anyBelow};
+ghost use Prim.Native.Nat.{_≤_, _<_};
 ghost use Rattle.net.specs.Limits.{mostEdges};
 ghost use Rattle.net.specs.Graph.{edgeAt};
-ghost use Rattle.sheet.specs.Graph.{isPartner, lacksPartner, partnerPlace};
+ghost use Rattle.sheet.specs.Pairs.{isBetween, beside, exceeds, lacksPartner};
+ghost use Rattle.sheet.specs.Graph.{partnerPlace};
 ghost use Rattle.sheet.specs.Search.{foundOf};
 use crate::tests::both;
 use crate::tests::either;
@@ -13,12 +13,11 @@ use net::Edge;
 use net::Net;
 use sheet::Found;
 
-// Is f parallel to e, with the same symbol and the form that e's primed form needs?
-fn is_partner(e: Edge, f: Edge) -> bool
-    requires { ⌜ e .form ≤ 3 ⌝ }
-    ensures { λ r. ⌜ r ≡ isPartner e f ⌝ }
+// Does f join the ends of e, with the same symbol and the form given?
+fn is_beside(e: Edge, form: u8, f: Edge) -> bool
+    ensures { λ r. ⌜ r ≡ isBetween (e .end1) (e .end2) (e .symbol) form f ⌝ }
 {
-    if f.form != 3 - e.form {
+    if f.form != form {
         return false;
     }
     if f.symbol != e.symbol {
@@ -29,38 +28,46 @@ fn is_partner(e: Edge, f: Edge) -> bool
     either(along, across)
 }
 
-// Has edge i a partner among the edges in use?
-fn has_partner(net: Net, i: usize) -> bool
-    requires { ⌜ (i < mostEdges) × (net .«edge_count» ≤ mostEdges) × ((edgeAt net i) .form ≤ 3) ⌝ }
-    ensures { λ r. ⌜ r ≡ anyBelow (net .«edge_count») (λ j. isPartner (edgeAt net i) (edgeAt net j)) ⌝ }
+// How many of the first n edges are so?
+fn count_beside(net: Net, e: Edge, form: u8, n: usize) -> usize
+    requires { ⌜ n ≤ mostEdges ⌝ }
+    ensures { λ r. ⌜ r ≡ beside net e n form ⌝ }
 {
-    let e = net.edges[i];
-    let count = net.edge_count as usize;
-    let mut j: usize = 0;
-    while j < count {
-        if is_partner(e, net.edges[j]) {
-            return true;
+    let mut count: usize = 0;
+    for j in 0..n {
+        if is_beside(e, form, net.edges[j]) {
+            count += 1;
         }
-        j += 1;
     }
-    false
+    count
 }
 
-// Is edge i of a primed form, without a partner?
+// Do the edges of edge i's form up to its line exceed their partners, of the form given, on the whole sheet?
+fn exceeds_partners(net: Net, i: usize, partner: u8) -> bool
+    requires { ⌜ (i < net .«edge_count») × (net .«edge_count» ≤ mostEdges) ⌝ }
+    ensures { λ r. ⌜ r ≡ exceeds net i ((edgeAt net i) .form) partner ⌝ }
+{
+    let e = net.edges[i];
+    let partners = count_beside(net, e, partner, net.edge_count as usize);
+    partners < count_beside(net, e, e.form, i + 1)
+}
+
+// Is edge i of a primed form that exceeds its partners?
 fn lacks_partner(net: Net, i: usize) -> bool
-    requires { ⌜ (i < mostEdges) × (net .«edge_count» ≤ mostEdges) × ((edgeAt net i) .form ≤ 3) ⌝ }
+    requires { ⌜ (i < net .«edge_count») × (net .«edge_count» ≤ mostEdges) ⌝ }
     ensures { λ r. ⌜ r ≡ lacksPartner net i ⌝ }
 {
     let form = net.edges[i].form;
-    if form < 2 {
-        return false;
+    match form {
+        2 => exceeds_partners(net, i, 1),
+        3 => exceeds_partners(net, i, 0),
+        _ => false,
     }
-    !has_partner(net, i)
 }
 
-// The line of the first edge without a partner.
+// The line of the first edge that exceeds its partners.
 pub(crate) fn partner_place(net: Net) -> Found
-    requires { ⌜ (net .«edge_count» ≤ mostEdges) × ((i : ℕ) → i < net .«edge_count» → (edgeAt net i) .form ≤ 3) ⌝ }
+    requires { ⌜ net .«edge_count» ≤ mostEdges ⌝ }
     ensures { λ r. ⌜ r ≡ foundOf (partnerPlace net) ⌝ }
 {
     let count = net.edge_count as usize;

@@ -1,15 +1,17 @@
--- Counting: one number more, numbers that do not count, and flags. Assumes nothing.
+-- Counting: one number more, numbers that do not count, flags, and the elements of a list. Assumes nothing.
 use mathlib.Core.Path.{_≡_, refl, ap, _∙_}
 use mathlib.Core.Bool.{Bool, true, false}
-use mathlib.Core.List.{List}
-use Prim.Native.Nat.{ℕ, _+_, _≤_}
+use mathlib.Core.List.{List, [], _∷_}
+use Prim.Native.Nat.{ℕ, zero, suc, _+_, _≤_}
 use native.Mathlib.Decide.{le-ind}
+use native.Mathlib.Omega.{arith}
 use native.Mathlib.Numerals.{add-one}
 use lib.Dec.{eqb}
 use lib.ListN.{length, getD}
 use Rattle.ternary.specs.Bits.{digit}
 use Rattle.ternary.specs.Lists.{table, countBelow}
 use Rattle.ternary.proofs.BitLaws.{eqb-digit}
+use Rattle.ternary.proofs.Tests.{by-test}
 use Rattle.ternary.proofs.ListLaws.{length-table, getD-table, count-ext}
 
 module _ (p : ℕ → Bool) where
@@ -31,3 +33,21 @@ pub count-table : (n : ℕ) (p : ℕ → Bool) (r : List ℕ) → r ≡ table n 
 count-table n p r e =
     rw (e, length-table n (λ j. digit (p j)))
     (count-ext n _ p (λ j l. ap (λ (x : ℕ). eqb x 1) (getD-table n (λ k. digit (p k)) j 0 l) ∙ eqb-digit (p j)))
+
+-- how many elements pass
+unfoldable pub countOf : {A : Type 0} → (A → Bool) → List A → ℕ
+countOf p [] = 0
+countOf p (x ∷ l) = digit (p x) + countOf p l
+
+count-first : (n : ℕ) (q : ℕ → Bool) → countBelow (suc n) q ≡ digit (q 0) + countBelow n (λ k. q (suc k))
+unfolding countBelow
+count-first zero q = by-test (q 0) (λ e. rw e) (λ e. rw e)
+count-first (suc n) q =
+    let ih = count-first n q in
+    by-test (q (suc n)) (λ e. rw e (omega (arith, ih))) (λ e. rw e ih)
+
+-- the elements of a table
+pub count-listed : {A : Type 0} (p : A → Bool) (n : ℕ) (f : ℕ → A) → countBelow n (λ k. p (f k)) ≡ countOf p (table n f)
+unfolding countOf table countBelow
+count-listed p zero f = refl
+count-listed p (suc n) f = count-first n (λ k. p (f k)) ∙ ap (λ (m : ℕ). digit (p (f 0)) + m) (count-listed p n (λ k. f (suc k)))

@@ -1,5 +1,5 @@
 -- What a checked record offers to the functions over its graph.
-use Prim.Native.Nat.{ℕ, _≤_, _<_}
+use Prim.Native.Nat.{ℕ, _<_}
 use native.Mathlib.Omega.{arith}
 use Rattle.net.specs.declared.Net.{Net}
 use Rattle.net.specs.Graph.{edgeAt}
@@ -13,9 +13,6 @@ module _ (N : Net) (c : Checked N) where
 
   pub checked-edge : (i : ℕ) → i < N .«edge_count» → EdgeRange N (edgeAt N i)
   checked-edge i h = edge-range N (edgeAt N i) (c .edges i h)
-
-  pub checked-form : (i : ℕ) → i < N .«edge_count» → (edgeAt N i) .form ≤ 3
-  checked-form i h = checked-edge i h .form
 
   pub checked-readable : Readable N
   checked-readable =

@@ -99,6 +99,15 @@ partner : (readSheet (sheetWith "   1   4   4   1   1\n" "   2   4   1   0   0\n
 unfolding open-all
 partner = refl
 
+-- it cannot be that of a second one too, which is one too many at line 9; with a partner more, at line 10, both have their own
+shared-partner : readSheet (sheetWith "   1   4   5   1   1\n" "   2   4   1   0   0\n" "   3   3   2   2  11\n   3   2   3   2  11\n") ≡ refused (answer 21 9)
+unfolding open-all
+shared-partner = refl
+
+two-pairs : (readSheet (sheetWith "   1   4   6   1   1\n" "   2   4   1   0   0\n" "   3   3   2   2  11\n   3   2   3   2  11\n   3   2   3   1  11\n")) .answer ≡ answer 0 0
+unfolding open-all
+two-pairs = refl
+
 -- ---- fields, single lines and job lines
 
 zero-field : readField fieldWidth (bytes "   0") ≡ some 0

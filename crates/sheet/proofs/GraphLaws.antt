@@ -1,108 +1,48 @@
--- What the rows over the graph say: partners (21), key nodes (22) and signals (23), each where it is silent and where it gives a place.
+-- What the rows over the graph say: pairs (21), key nodes (22) and signals (23), each where it is silent and where it gives a place.
 use Prim.Native.Nat.{ℕ, suc, _+_, _-_, _≤_, _<_}
 use native.Mathlib.Omega.{arith}
 use mathlib.Core.Path.{_≡_, ap}
-use mathlib.Core.Logic.{inl, inr, ⊎-elim, _↔_}
-use mathlib.Core.Bool.{Bool, true, false, not, _&&_}
+use mathlib.Core.Logic.{⊎-elim, _↔_}
+use mathlib.Core.Bool.{true}
 use mathlib.Core.Option.{none, some, Option·map, map-eq-none-iff, map-eq-some-iff}
-use lib.Dec.{eqb}
-use borrow.Author.Tests.{leb-true, le-leb, eqb-true, eq-eqb, ltb-true, lt-ltb, not-true, not-false}
-use Rattle.net.specs.declared.Edge.{Edge}
+use borrow.Author.Tests.{ltb-true, lt-ltb}
 use Rattle.net.specs.declared.Net.{Net}
 use Rattle.net.specs.Limits.{mostKeyNodes, mostSignals}
-use Rattle.net.specs.Graph.{edgeAt, hasRole, isStorage, keys, keyCount, keyVertex}
-use Rattle.net.specs.Walks.{Joins}
+use Rattle.net.specs.Graph.{hasRole, isStorage, keys, keyCount, keyVertex}
 use Rattle.net.specs.SignalTable.{signalCount}
 use Rattle.net.proofs.Classes.{storage-range}
 use Rattle.net.proofs.Keys.{key-at, key-storage}
-use Rattle.ternary.specs.Lists.{anyBelow, leastBelow}
-use Rattle.ternary.proofs.Tests.{ands, both, or-true, or-left, or-right, fails, not-both, by-test}
-use Rattle.ternary.proofs.ListLaws.{any-found, any-of, least-none, least-some, least-none-iff, least-some-iff}
+use Rattle.ternary.specs.Lists.{leastBelow}
+use Rattle.ternary.proofs.Tests.{ands, both, or-true, fails, not-both}
+use Rattle.ternary.proofs.ListLaws.{least-none, least-some, least-none-iff, least-some-iff}
 use Rattle.sheet.specs.declared.Found.the-variants.{At, Nothing}
 use Rattle.sheet.specs.Rows.{answer, firstRow, answered, NoRow}
 use Rattle.sheet.specs.Rows.NoRow.{end, next}
-use Rattle.sheet.specs.Rules.{primed}
-use Rattle.sheet.specs.Graph.{isPartner, lacksPartner, edgePlace, partnerPlace, keyPlace, overSignals, signalPlace, graphRows}
+use Rattle.sheet.specs.Pairs.{Paired, Unpaired, lacksPartner}
+use Rattle.sheet.specs.Graph.{edgePlace, partnerPlace, keyPlace, overSignals, signalPlace, graphRows}
 use Rattle.sheet.specs.Search.{foundOf}
 use Rattle.sheet.proofs.SearchLaws.{found-some, found-none}
 use Rattle.sheet.proofs.Places.{get-none, get-some}
 use Rattle.sheet.proofs.RowLaws.{first-none}
-
--- ---- 21: partners
-
--- f is parallel to e and has e's symbol and the form that e's needs
-pub record Partner (e f : Edge) : Type 0 where
-  pub form : f .form ≡ 3 - e .form
-  pub symbol : f .symbol ≡ e .symbol
-  pub joins : Joins f (e .end1) (e .end2)
-
-abbrev ends : Edge → ℕ → ℕ → Bool
-ends f u v = eqb (f .end1) u && eqb (f .end2) v
-
-ends-iff : (f : Edge) (u v : ℕ) → (ends f u v ≡ true) ↔ ((f .end1 ≡ u) × (f .end2 ≡ v))
-ends-iff f u v = (
-  λ t. (eqb-true (f .end1) u (search ands), eqb-true (f .end2) v (search ands)),
-  λ h. both (eq-eqb (f .end1) u (h .0)) (eq-eqb (f .end2) v (h .1)),
-)
-
-pub partner-iff : (e f : Edge) → (isPartner e f ≡ true) ↔ Partner e f
-unfolding isPartner
-partner-iff e f = (there, back)
-  where
-    there : isPartner e f ≡ true → Partner e f
-    there t =
-        record {
-          form = eqb-true (f .form) (3 - e .form) (search ands);
-          symbol = eqb-true (f .symbol) (e .symbol) (search ands);
-          joins =
-              ⊎-elim (λ h. inl (ends-iff f (e .end1) (e .end2) .0 h)) (λ h. inr (ends-iff f (e .end2) (e .end1) .0 h))
-              (or-true (ends f (e .end1) (e .end2)) (ends f (e .end2) (e .end1)) (search ands));
-        }
-
-    back : Partner e f → isPartner e f ≡ true
-    back p =
-        both (both (eq-eqb (f .form) (3 - e .form) (p .form)) (eq-eqb (f .symbol) (e .symbol) (p .symbol)))
-        (⊎-elim
-        (λ h. or-left (ends f (e .end1) (e .end2)) _ (ends-iff f (e .end1) (e .end2) .1 h))
-        (λ h. or-right (ends f (e .end1) (e .end2)) _ (ends-iff f (e .end2) (e .end1) .1 h))
-        (p .joins))
+use Rattle.sheet.proofs.PairLaws.{lacks-iff, paired-iff}
 
 module _ (N : Net) where
-  -- edge i has a partner, if its form is primed
-  abbrev pub Paired : ℕ → Type 0
-  Paired i = 2 ≤ (edgeAt N i) .form → (j : ℕ) × (j < N .«edge_count») × Partner (edgeAt N i) (edgeAt N j)
+  -- ---- 21: pairs
 
-  paired-iff : (i : ℕ) → (lacksPartner N i ≡ false) ↔ Paired i
-  unfolding lacksPartner
-  paired-iff i = (there, λ f. fails (lacksPartner N i) (back f))
-    where
-      partners : ℕ → Bool
-      partners j = isPartner (edgeAt N i) (edgeAt N j)
-
-      there : (primed ((edgeAt N i) .form) && not (anyBelow (N .«edge_count») partners)) ≡ false → Paired i
-      there e h =
-          let f = any-found partners (N .«edge_count») (not-false _ (rw (le-leb 2 ((edgeAt N i) .form) h) at e)) in
-          (f .0, f .1, partner-iff _ _ .0 (f .2))
-
-      back : Paired i → (primed ((edgeAt N i) .form) && not (anyBelow (N .«edge_count») partners)) ≡ true → ⊥
-      back f t =
-          let j = f (leb-true 2 ((edgeAt N i) .form) (search ands)) in
-          not-both (anyBelow (N .«edge_count») partners) (any-of partners (N .«edge_count») (j .0) (j .1) (partner-iff _ _ .1 (j .2)))
-          (not-true _ (search ands))
-
-  -- silent if every edge of a primed form has a partner
-  pub partner-none : (partnerPlace N ≡ none) ↔ ((i : ℕ) → i < N .«edge_count» → Paired i)
+  -- silent exactly if the rule holds between any two vertices and for each symbol
+  pub partner-none : (partnerPlace N ≡ none) ↔ Paired N
   unfolding partnerPlace
   partner-none = (
-    λ e i h. paired-iff i .0 (least-none (lacksPartner N) (N .«edge_count») .0 (map-eq-none-iff (edgePlace N) _ .0 e) i h),
-    λ f. map-eq-none-iff (edgePlace N) _ .1 (least-none (lacksPartner N) (N .«edge_count») .1 (λ i h. paired-iff i .1 (f i h))),
+    λ e. paired-iff N .0 (least-none (lacksPartner N) (N .«edge_count») .0 (map-eq-none-iff (edgePlace N) _ .0 e)),
+    λ r. map-eq-none-iff (edgePlace N) _ .1 (least-none (lacksPartner N) (N .«edge_count») .1 (paired-iff N .1 r)),
   )
 
+  -- the first line whose primed form, counted in file order, exceeds its partners on the whole sheet
   pub record FirstUnpaired (place : ℕ) : Type 0 where
     pub edge : ℕ
     pub below : edge < N .«edge_count»
-    pub unpaired : ¬ Paired edge
-    pub earlier : (i : ℕ) → i < edge → Paired i
+    pub unpaired : Unpaired N edge
+    pub earlier : (i : ℕ) → i < edge → ¬ Unpaired N i
     pub line : edgePlace N edge ≡ place
 
   pub partner-some : (place : ℕ) → (partnerPlace N ≡ some place) ↔ FirstUnpaired place
@@ -116,8 +56,8 @@ module _ (N : Net) where
           record {
             edge = m .0;
             below = l .below;
-            unpaired = λ p. not-both (lacksPartner N (m .0)) (l .passes) (paired-iff (m .0) .1 p);
-            earlier = λ i h. paired-iff i .0 (l .earlier i h);
+            unpaired = lacks-iff N (m .0) .0 (l .passes);
+            earlier = λ i h u. not-both (lacksPartner N i) (lacks-iff N i .1 u) (l .earlier i h);
             line = m .2;
           }
 
@@ -128,8 +68,8 @@ module _ (N : Net) where
             least-some (lacksPartner N) (N .«edge_count») (f .edge) .1
                 (record {
                   below = f .below;
-                  passes = by-test (lacksPartner N (f .edge)) (λ t. t) (λ e. absurd (f .unpaired (paired-iff (f .edge) .0 e)));
-                  earlier = λ i h. paired-iff i .1 (f .earlier i h);
+                  passes = lacks-iff N (f .edge) .1 (f .unpaired);
+                  earlier = λ i h. fails (lacksPartner N i) (λ t. f .earlier i h (lacks-iff N i .0 t));
                 }),
             f .line,
           )

@@ -1,4 +1,4 @@
--- What holds of every valid record, so of every accepted net: counts, ranges, known symbols and labels, partners, key nodes and signals.
+-- What holds of every valid record, so of every accepted net: counts, ranges, known symbols and labels, pairs, key nodes and signals.
 use Prim.Native.Nat.{ℕ, _-_, _≤_, _<_}
 use native.Mathlib.Omega.{arith}
 use mathlib.Core.Path.{_≡_}
@@ -13,10 +13,11 @@ use Rattle.net.specs.SignalTable.{signalCount}
 use Rattle.net.specs.Known.{knownLabel, Known}
 use Rattle.ternary.proofs.Tests.{ands, by-test}
 use Rattle.sheet.specs.Rules.{vertexOk, edgeOk}
+use Rattle.sheet.specs.Pairs.{Paired}
 use Rattle.sheet.specs.Valid.{valid}
 use Rattle.sheet.proofs.RuleLaws.{Counts, VertexRange, vertex-range, EdgeRange, edge-symbol, edge-range}
 use Rattle.sheet.proofs.Places.{all-taken}
-use Rattle.sheet.proofs.GraphLaws.{Paired, partner-none, key-none, signal-none, NoGraphRow, graph-none}
+use Rattle.sheet.proofs.GraphLaws.{partner-none, key-none, signal-none, NoGraphRow, graph-none}
 use Rattle.sheet.proofs.Validity.{Valid, valid-iff, counts-of}
 
 module _ (N : Net) (ok : valid N ≡ true) where
@@ -64,7 +65,7 @@ module _ (N : Net) (ok : valid N ≡ true) where
 
   -- ---- the rows over the graph
 
-  pub valid-paired : (i : ℕ) → i < N .«edge_count» → Paired N i
+  pub valid-paired : Paired N
   valid-paired = partner-none N .0 (rows .partner)
 
   pub valid-keys : keyCount N ≤ mostKeyNodes

@@ -11,6 +11,7 @@ pub mod SearchLaws
 pub mod RuleLaws
 pub mod RuleSteps
 pub mod Places
+pub mod PairLaws
 pub mod GraphLaws
 pub mod KeyFlagLaws
 pub mod OverSignalLaws

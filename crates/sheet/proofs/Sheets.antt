@@ -11,7 +11,8 @@ use Rattle.sheet.specs.Line.{writeLine, fieldAt, fiveFields, readLine, h
 use Rattle.sheet.specs.Rows.{firstRow}
 use Rattle.sheet.specs.Record.{startNet, emptyNet}
 use Rattle.sheet.specs.Rules.{countsOk, headerOk, vertexOk, symbolOk, edgeOk}
-use Rattle.sheet.specs.Graph.{isPartner, lacksPartner, partnerPlace, keyPlace, overSignals, signalPlace, graphRows}
+use Rattle.sheet.specs.Pairs.{isBetween, edgesBetween, exceeds, lacksPartner}
+use Rattle.sheet.specs.Graph.{partnerPlace, keyPlace, overSignals, signalPlace, graphRows}
 use Rattle.sheet.specs.Reading.{vertexLineOk, edgeLineOk, addLine, stepLine, conclude, readLines, sizeOk, readHeader, readIn}
 use Rattle.sheet.specs.Writing.{vertexLines, edgeLines, writeIn}
 use Rattle.sheet.specs.Valid.{allOf, isNoVertex, isNoEdge, passes, valid}
@@ -22,7 +23,7 @@ use Rattle.sheet.specs.Text.{bytes}
 unfoldable pub open-all : Unit {0}
 unfolding
     model net signalCount same column writeField fieldValue readField writeLine fieldAt fiveFields readLine hasLine lineIn lineNumberIn
-    firstRow startNet emptyNet countsOk headerOk vertexOk symbolOk edgeOk isPartner lacksPartner partnerPlace keyPlace overSignals
+    firstRow startNet emptyNet countsOk headerOk vertexOk symbolOk edgeOk isBetween edgesBetween exceeds lacksPartner partnerPlace keyPlace overSignals
     signalPlace graphRows vertexLineOk edgeLineOk addLine stepLine conclude readLines sizeOk readHeader readIn vertexLines edgeLines
     writeIn allOf isNoVertex isNoEdge passes valid jobIn
 open-all = tt

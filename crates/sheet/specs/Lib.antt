@@ -5,6 +5,7 @@ pub mod Line
 pub mod Rows
 pub mod Record
 pub mod Rules
+pub mod Pairs
 pub mod Graph
 pub mod Search
 pub mod Checked

@@ -4,13 +4,14 @@ use native.Mathlib.Nat.{not-suc-le-zero, le-of-suc-le-suc}
 use native.Mathlib.Omega.{arith}
 use mathlib.Core.Path.{_≡_, refl, sym, ap, _∙_}
 use mathlib.Core.Logic.{_⊎_, inl, inr, _↔_}
-use mathlib.Core.Bool.{true, false}
+use mathlib.Core.Bool.{Bool, true, false}
 use mathlib.Core.List.{List, [], _∷_, map, List·Permᴰ, List·Permᴰ·nil, List·Permᴰ·cons, List·Permᴰ·swap, List·Permᴰ·trans}
 use lib.Dec.{leb}
 use lib.ListN.{length, getD}
 use borrow.Author.Tests.{leb-true, leb-false}
 use Rattle.net.specs.declared.Edge.{Edge}
 use Rattle.net.specs.declared.Net.{Net}
+use Rattle.net.proofs.Counting.{countOf}
 use Rattle.ternary.proofs.Tests.{cond-by, test}
 use Rattle.writer.specs.SameNet.{turned, SameEdge, Redrawn, SameNet}
 use Rattle.writer.specs.SameNet.Redrawn.{nothing, also, exchanged, onward}
@@ -94,6 +95,14 @@ redrawn-at z (onward r s) i h =
     let t = redrawn-at z r i h in
     let u = redrawn-at z s (t .0) (t .1) in
     (u .0, u .1, edge-onward (t .2) (u .2))
+
+-- a test that does not ask for the order of ends counts the same edges in both
+pub redrawn-count : (p : Edge → Bool) → ((e f : Edge) → SameEdge e f → p e ≡ p f) → {l m : List Edge} → Redrawn l m → countOf p l ≡ countOf p m
+unfolding countOf
+redrawn-count p k nothing = refl
+redrawn-count p k (also {e = e} {f = f} s r) = rw (k e f s, redrawn-count p k r)
+redrawn-count p k exchanged = omega arith
+redrawn-count p k (onward r s) = redrawn-count p k r ∙ redrawn-count p k s
 
 -- ---- nets
 

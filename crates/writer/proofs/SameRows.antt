@@ -1,8 +1,8 @@
 -- Records of the same net are silent in the same rows over the graph.
-use Prim.Native.Nat.{ℕ, suc, _-_, _<_}
-use mathlib.Core.Path.{_≡_, refl, sym, ap, ap₂, _∙_}
-use mathlib.Core.Bool.{Bool, _&&_}
-use mathlib.Core.Logic.{inl, inr}
+use Prim.Native.Nat.{ℕ, suc}
+use native.Mathlib.Omega.{arith}
+use mathlib.Core.Path.{_≡_, sym, ap, ap₂, _∙_}
+use mathlib.Core.Bool.{Bool, true, _&&_}
 use mathlib.Core.List.{List}
 use mathlib.Core.Option.{none}
 use lib.Dec.{ltb}
@@ -10,43 +10,47 @@ use lib.ListN.{getElem?}
 use Rattle.net.specs.declared.Edge.{Edge}
 use Rattle.net.specs.declared.Net.{Net}
 use Rattle.net.specs.Limits.{mostKeyNodes, mostSignals}
-use Rattle.net.specs.Walks.{Joins}
+use Rattle.net.specs.Graph.{edgeAt}
+use Rattle.net.proofs.Counting.{count-listed}
 use Rattle.sheet.specs.Rows.{firstRow}
+use Rattle.sheet.specs.Pairs.{isBetween, edgesBetween, Paired}
 use Rattle.sheet.specs.Graph.{keyPlace, overSignals, signalPlace, graphRows}
-use Rattle.sheet.proofs.GraphLaws.{Partner, Paired, partner-none, graph-none}
+use Rattle.sheet.proofs.PairLaws.{between-iff}
+use Rattle.sheet.proofs.GraphLaws.{partner-none, graph-none}
 use Rattle.ternary.specs.Lists.{leastBelow}
-use Rattle.writer.specs.SameNet.{SameEdge, SameNet}
-use Rattle.writer.proofs.SameNetLaws.{net-back}
+use Rattle.ternary.proofs.Tests.{same-test}
+use Rattle.writer.specs.SameNet.{edgesOf, SameEdge, SameNet}
+use Rattle.writer.proofs.SameNetLaws.{edge-back, redrawn-count}
 use Rattle.writer.proofs.SameGraph.{same-form, same-symbol, same-joins, same-among, same-storage, same-keys}
 use Rattle.writer.proofs.SameSignals.{same-signal-count}
 
--- ---- partners
+-- ---- pairs
 
--- f joins the ends of d, and e is d but for the order of its ends
-joined-ends : (f : Edge) {d e : Edge} → SameEdge e d → Joins f (d .end1) (d .end2) → Joins f (e .end1) (e .end2)
-joined-ends f {d} {e} h j = go (same-joins h (inl (refl, refl))) j
-  where
-    go : Joins d (e .end1) (e .end2) → Joins f (d .end1) (d .end2) → Joins f (e .end1) (e .end2)
-    go (inl a) (inl b) = inl (b .0 ∙ a .0, b .1 ∙ a .1)
-    go (inl a) (inr b) = inr (b .0 ∙ a .1, b .1 ∙ a .0)
-    go (inr a) (inl b) = inr (b .0 ∙ a .0, b .1 ∙ a .1)
-    go (inr a) (inr b) = inl (b .0 ∙ a .1, b .1 ∙ a .0)
+between-onward : (u v s x : ℕ) {e f : Edge} → SameEdge e f → isBetween u v s x e ≡ true → isBetween u v s x f ≡ true
+between-onward u v s x {e} {f} h t =
+    let b = between-iff u v s x e .0 t in
+    between-iff u v s x f .1
+    (record { joins = same-joins h (b .joins); symbol = sym (same-symbol h) ∙ b .symbol; form = sym (same-form h) ∙ b .form })
 
-same-partner : {d e f g : Edge} → SameEdge e d → SameEdge f g → Partner d f → Partner e g
-same-partner {g = g} h k p =
-    record {
-      form = sym (same-form k) ∙ p .form ∙ ap (λ (n : ℕ). 3 - n) (sym (same-form h));
-      symbol = sym (same-symbol k) ∙ p .symbol ∙ sym (same-symbol h);
-      joins = joined-ends g h (same-joins k (p .joins));
-    }
+same-test-between : (u v s x : ℕ) (e f : Edge) → SameEdge e f → isBetween u v s x e ≡ isBetween u v s x f
+same-test-between u v s x e f h = same-test _ _ (between-onward u v s x h) (between-onward u v s x (edge-back h))
 
 module _ {M N : Net} (s : SameNet M N) where
-  paired-among : ((i : ℕ) → i < M .«edge_count» → Paired M i) → (j : ℕ) → j < N .«edge_count» → Paired N j
-  paired-among p j h primed =
-      let b = same-among (net-back s) .edges j h in
-      let r = p (b .0) (b .1) (rw (same-form (b .2)) at primed) in
-      let t = same-among s .edges (r .0) (r .1) in
-      (t .0, t .1, same-partner (b .2) (t .2) (r .2))
+  -- as many edges lie between two vertices
+  same-between : (u v c x : ℕ) → edgesBetween M (M .«edge_count») u v c x ≡ edgesBetween N (N .«edge_count») u v c x
+  unfolding edgesBetween edgesOf
+  same-between u v c x =
+      count-listed (isBetween u v c x) (M .«edge_count») (edgeAt M)
+      ∙ redrawn-count (isBetween u v c x) (same-test-between u v c x) (s .edges)
+      ∙ sym (count-listed (isBetween u v c x) (N .«edge_count») (edgeAt N))
+
+  -- pairing depends neither on the order of edges nor on that of an edge's ends
+  pub same-paired : Paired M → Paired N
+  same-paired p =
+      record {
+        two = λ u v c. omega (arith, p .two u v c, same-between u v c 2, same-between u v c 1);
+        three = λ u v c. omega (arith, p .three u v c, same-between u v c 3, same-between u v c 0);
+      }
 
   -- ---- key nodes and signals
 
@@ -67,7 +71,7 @@ module _ {M N : Net} (s : SameNet M N) where
       let f = graph-none M .0 e in
       graph-none N .1
       (record {
-        partner = partner-none N .1 (paired-among (partner-none M .0 (f .partner)));
+        partner = partner-none N .1 (same-paired (partner-none M .0 (f .partner)));
         key = sym same-key-place ∙ f .key;
         signal = sym same-signal-place ∙ f .signal;
       })

@@ -1,9 +1,8 @@
--- A form below 2 is not primed; any other asks for a partner.
-use mathlib.Core.Path.{sym}
+-- Forms 2 and 3 are primed, each with its partners' form; no other form needs a partner.
+use mathlib.Core.Path.{_∙_}
 use borrow.Author.Needs.{needs}
-use borrow.Author.Tests.{le-leb, lt-leb}
 use Rattle.net.specs.Graph.{edgeAt}
-use Rattle.sheet.specs.Graph.{lacksPartner}
+use Rattle.sheet.proofs.PairLaws.{form-two, form-three, form-other}
 use Rattle.graph_rows.proofs.partners.lacks_partner.Statement.{statement}
 use Rattle.graph_rows.proofs.partners.lacks_partner.Tie as tie
 
@@ -13,17 +12,32 @@ mul-form c = search needs
 element-copy-out-form : tie.Need-element-copy-out-form
 element-copy-out-form c = search needs
 
-returns : tie.Need-returns
-unfolding lacksPartner edgeAt
-returns c = sym (rw (lt-leb 2 _ (c .if1 .taken)))
+exceeds-partners-requires : tie.Need-exceeds-partners-requires
+exceeds-partners-requires c κs = search needs
 
-has-partner-requires : tie.Need-has-partner-requires
-has-partner-requires c κs = search needs
+exceeds-partners-requires-2 : tie.Need-exceeds-partners-requires-2
+exceeds-partners-requires-2 c κs = search needs
+
+returns : tie.Need-returns
+unfolding edgeAt
+returns c = c .exceeds-partners .ensures ∙ form-two _ _ (c .before .match .keys1)
 
 returns-2 : tie.Need-returns-2
-unfolding lacksPartner edgeAt
-returns-2 c = rw (le-leb 2 _ (c .before .if1 .left), c .has-partner .ensures)
+unfolding edgeAt
+returns-2 c = c .exceeds-partners2 .ensures ∙ form-three _ _ (c .before .match .keys2)
+
+returns-3 : tie.Need-returns-3
+unfolding edgeAt
+returns-3 c = form-other _ _ (c .match .rest .0 .1) (c .match .rest .1)
 
 pub lacks-partner-spec : {M : Type 1} → statement M
 lacks-partner-spec =
-    tie.close (tie.spec mul-form element-copy-out-form returns has-partner-requires returns-2)
+    tie.close
+    (tie.spec
+    mul-form
+    element-copy-out-form
+    exceeds-partners-requires
+    exceeds-partners-requires-2
+    returns
+    returns-2
+    returns-3)

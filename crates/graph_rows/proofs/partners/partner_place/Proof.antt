@@ -1,4 +1,4 @@
--- No edge passed so far lacks its partner; the first that does gives its line.
+-- No edge passed so far exceeds its partners; the first that does gives its line.
 use Prim.Native.Nat.{_≤_, _-_}
 use native.Mathlib.Omega.{arith}
 use mathlib.Core.Path.{_≡_, sym, _∙_}
@@ -6,7 +6,7 @@ use mathlib.Core.Option.{none}
 use borrow.Author.Needs.{needs}
 use Rattle.ternary.specs.Lists.{leastBelow}
 use Rattle.ternary.proofs.ListLaws.{least-more, least-hit}
-use Rattle.sheet.specs.Graph.{lacksPartner}
+use Rattle.sheet.specs.Pairs.{lacksPartner}
 use Rattle.sheet.proofs.GraphLaws.{partner-found, partner-missing}
 use Rattle.graph_rows.proofs.partners.partner_place.Statement.{statement}
 use Rattle.graph_rows.proofs.partners.partner_place.Tie as tie
@@ -31,9 +31,7 @@ unfolding leastBelow
 loop-holds c = (search needs, λ _. none)
 
 lacks-partner-requires : tie.Need-lacks-partner-requires Inv-loop μ-loop
-lacks-partner-requires c κs =
-    let p = c .before .before .before .before .pre in
-    (omega (arith, p .0), p .0, p .1 (c .before .loop .i) (c .loop-test .taken))
+lacks-partner-requires c κs = search needs
 
 cast-t8 : tie.Need-cast-t8 Inv-loop μ-loop
 cast-t8 c = search needs

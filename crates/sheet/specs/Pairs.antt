@@ -1,0 +1,75 @@
+-- Pairs (row 21): a transmission gate is two edges side by side, so each edge of a primed form takes a partner of its own.
+use Prim.Native.Nat.{ℕ, suc, _≤_, _<_}
+use mathlib.Core.Path.{_≡_}
+use mathlib.Core.Bool.{Bool, _&&_, _||_}
+use mathlib.Core.Logic.{_⊎_}
+use lib.Dec.{ltb, eqb}
+use Rattle.ternary.specs.Lists.{countBelow}
+use Rattle.net.specs.Graph.{edgeAt}
+use Rattle.net.specs.Walks.{Joins}
+use Rattle.net.specs.declared.Edge.{Edge}
+use Rattle.net.specs.declared.Net.{Net}
+
+-- f joins u and v, in either order, and has the symbol s and the form x
+pub record Between (u v s x : ℕ) (f : Edge) : Type 0 where
+  pub joins : Joins f u v
+  pub symbol : f .symbol ≡ s
+  pub form : f .form ≡ x
+
+-- is it so? (`between-iff`)
+unfoldable pub isBetween : (u v s x : ℕ) → Edge → Bool
+isBetween u v s x f =
+    eqb (f .form) x
+    && eqb (f .symbol) s
+    && (eqb (f .end1) u && eqb (f .end2) v || eqb (f .end1) v && eqb (f .end2) u)
+
+-- how many of the first n edges are so
+unfoldable pub edgesBetween : Net → ℕ → (u v s x : ℕ) → ℕ
+edgesBetween N n u v s x = countBelow n (λ j. isBetween u v s x (edgeAt N j))
+
+-- ---- the rule, over the whole sheet
+
+-- between any two vertices, and for each symbol, edges of form x do not outnumber those of form p
+abbrev pub NoMore : Net → (x p : ℕ) → Type 0
+NoMore N x p = (u v s : ℕ) → edgesBetween N (N .«edge_count») u v s x ≤ edgesBetween N (N .«edge_count») u v s p
+
+-- form 2 does not outnumber form 1, nor form 3 form 0
+pub record Paired (N : Net) : Type 0 where
+  pub two : NoMore N 2 1
+  pub three : NoMore N 3 0
+
+-- ---- its place
+
+-- how many of the first n edges join the ends of e, with its symbol, and have the form x
+abbrev pub beside : Net → Edge → ℕ → ℕ → ℕ
+beside N e n x = edgesBetween N n (e .end1) (e .end2) (e .symbol) x
+
+-- edge i has the form x, and those of it up to this line, this one too, exceed their partners of form p on the whole sheet
+pub record Exceeds (N : Net) (i x p : ℕ) : Type 0 where
+  pub form : (edgeAt N i) .form ≡ x
+  pub over : beside N (edgeAt N i) (N .«edge_count») p < beside N (edgeAt N i) (suc i) x
+
+abbrev pub Unpaired : Net → ℕ → Type 0
+Unpaired N i = Exceeds N i 2 1 ⊎ Exceeds N i 3 0
+
+-- is edge i so? (`exceeds-iff`, `lacks-iff`)
+unfoldable pub exceeds : Net → (i x p : ℕ) → Bool
+exceeds N i x p =
+    let e = edgeAt N i in
+    eqb (e .form) x && ltb (beside N e (N .«edge_count») p) (beside N e (suc i) x)
+
+unfoldable pub lacksPartner : Net → ℕ → Bool
+lacksPartner N i = exceeds N i 2 1 || exceeds N i 3 0
+
+-- ---- partners
+
+-- edge j is the partner, of form p, of edge i alone: side by side, as many edges of i's form stand before i as partners stand before j
+pub record PartnerOf (N : Net) (p i j : ℕ) : Type 0 where
+  pub below : j < N .«edge_count»
+  pub between : Between ((edgeAt N i) .end1) ((edgeAt N i) .end2) ((edgeAt N i) .symbol) p (edgeAt N j)
+  pub order : beside N (edgeAt N i) i ((edgeAt N i) .form) ≡ beside N (edgeAt N i) j p
+
+-- every edge of a primed form has one
+pub record Partnered (N : Net) : Type 0 where
+  pub two : (i : ℕ) → i < N .«edge_count» → (edgeAt N i) .form ≡ 2 → (j : ℕ) × PartnerOf N 1 i j
+  pub three : (i : ℕ) → i < N .«edge_count» → (edgeAt N i) .form ≡ 3 → (j : ℕ) × PartnerOf N 0 i j
