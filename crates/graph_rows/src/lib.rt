@@ -1,10 +1,10 @@
-//! The rows over the whole graph: partners (21), key nodes (22) and the signals of a component (23).
+//! The rows over the whole graph: pairs (21), key nodes (22) and the signals of a component (23).
 //! Types, definitions and laws are those of the crate `sheet`.
 
 pub mod components;
+pub mod edge_numbers;
 pub mod key_nodes;
 pub mod partners;
-pub mod tests;
 
 ghost use mathlib.Core.Path.{_≡_};
 ghost use Rattle.sheet.specs.Rows.{firstRow, answered};

@@ -5,6 +5,7 @@ use Rattle.net.specs.declared.Net.{Net}
 use Rattle.net.specs.Graph.{edgeAt}
 use Rattle.net.specs.Tables.{Readable}
 use Rattle.sheet.specs.Checked.{Checked}
+use Rattle.sheet.specs.EdgeNumbers.{InRange}
 use Rattle.sheet.proofs.RuleLaws.{Counts, counts-facts, EdgeRange, edge-range}
 
 module _ (N : Net) (c : Checked N) where
@@ -13,6 +14,12 @@ module _ (N : Net) (c : Checked N) where
 
   pub checked-edge : (i : ℕ) → i < N .«edge_count» → EdgeRange N (edgeAt N i)
   checked-edge i h = edge-range N (edgeAt N i) (c .edges i h)
+
+  pub checked-range : (i : ℕ) → i < N .«edge_count» → InRange (edgeAt N i)
+  checked-range i h =
+      let n = checked-counts in
+      let r = checked-edge i h in
+      record { end1 = omega arith; end2 = omega arith; symbol = r .symbol; form = omega arith }
 
   pub checked-readable : Readable N
   checked-readable =

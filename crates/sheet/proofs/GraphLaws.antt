@@ -1,5 +1,5 @@
 -- What the rows over the graph say: pairs (21), key nodes (22) and signals (23), each where it is silent and where it gives a place.
-use Prim.Native.Nat.{ℕ, suc, _+_, _-_, _≤_, _<_}
+use Prim.Native.Nat.{ℕ, suc, _+_, _≤_, _<_}
 use native.Mathlib.Omega.{arith}
 use mathlib.Core.Path.{_≡_, ap}
 use mathlib.Core.Logic.{⊎-elim, _↔_}

@@ -12,6 +12,7 @@ pub mod RuleLaws
 pub mod RuleSteps
 pub mod Places
 pub mod PairLaws
+pub mod EdgeNumberLaws
 pub mod GraphLaws
 pub mod KeyFlagLaws
 pub mod OverSignalLaws

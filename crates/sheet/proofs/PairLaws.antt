@@ -2,16 +2,15 @@
 use Prim.Native.Nat.{ℕ, zero, suc, _≤_, _<_}
 use native.Mathlib.Omega.{arith}
 use mathlib.Core.Path.{_≡_, refl, sym, ap, _∙_}
-use mathlib.Core.Logic.{_≢_, inl, inr, ⊎-elim, _↔_}
-use mathlib.Core.Bool.{Bool, true, false, _&&_, or-false}
+use mathlib.Core.Logic.{inl, inr, ⊎-elim, _↔_}
+use mathlib.Core.Bool.{Bool, true, false, _&&_}
 use lib.Dec.{ltb, eqb}
-use borrow.Author.Tests.{eqb-true, eq-eqb, ne-eqb, ltb-true, ltb-false, lt-ltb}
+use borrow.Author.Tests.{eqb-true, eq-eqb, ltb-true, ltb-false, lt-ltb}
 use Rattle.net.specs.declared.Edge.{Edge}
 use Rattle.net.specs.declared.Net.{Net}
 use Rattle.net.specs.Graph.{edgeAt}
-use Rattle.net.specs.Walks.{Joins}
 use Rattle.ternary.specs.Lists.{countBelow}
-use Rattle.ternary.proofs.Tests.{ands, both, or-true, or-left, or-right, or-false-iff, fails, not-both, by-test, same-test}
+use Rattle.ternary.proofs.Tests.{ands, both, or-true, or-left, or-right, fails, not-both, by-test, same-test}
 use Rattle.ternary.proofs.ListLaws.{count-ext, count-mono, place-at}
 use Rattle.sheet.specs.Pairs.{Between, isBetween, edgesBetween, NoMore, Paired, beside, Exceeds, Unpaired, exceeds, lacksPartner, PartnerOf, Partnered}
 
@@ -158,7 +157,7 @@ module _ (N : Net) where
   has-partner p i h m =
       let e = edgeAt N i in
       let enough : beside N e i (e .form) < beside N e E p =
-          omega (arith, counts-itself i, between-rise (e .end1) (e .end2) (e .symbol) (e .form) (suc i) E h, m (e .end1) (e .end2) (e .symbol)) in
+      omega (arith, counts-itself i, between-rise (e .end1) (e .end2) (e .symbol) (e .form) (suc i) E h, m (e .end1) (e .end2) (e .symbol)) in
       let r = place-at (λ j. isBetween (e .end1) (e .end2) (e .symbol) p (edgeAt N j)) E (beside N e i (e .form)) enough in
       (r .0, record { below = r .1 .below; between = between-iff _ _ _ _ (edgeAt N (r .0)) .0 (r .1 .passes); order = sym (r .1 .place) })
 
@@ -193,33 +192,17 @@ module _ (N : Net) where
       by-test (ltb i k)
       (λ t.
       absurd
-      (omega
-      (arith,
-      counts-itself i,
-      r .order,
-      s .order,
-      between-rise (d .end1) (d .end2) (d .symbol) (d .form) (suc i) k (ltb-true i k t),
-      sym (beside-same N (r .between) j p) ∙ beside-same N (s .between) j p,
-      sym (beside-same N (r .between) k (d .form)) ∙ beside-same N (s .between) k (d .form) ∙ ap (beside N e k) f)))
+      (omega (
+        arith,
+        counts-itself i,
+        r .order,
+        s .order,
+        between-rise (d .end1) (d .end2) (d .symbol) (d .form) (suc i) k (ltb-true i k t),
+        sym (beside-same N (r .between) j p) ∙ beside-same N (s .between) j p,
+        sym (beside-same N (r .between) k (d .form)) ∙ beside-same N (s .between) k (d .form) ∙ ap (beside N e k) f,
+      )))
       (ltb-false i k)
 
   -- an edge is the partner of one edge of a form only
   pub partner-alone : (p i k j : ℕ) → (edgeAt N i) .form ≡ (edgeAt N k) .form → PartnerOf N p i j → PartnerOf N p k j → i ≡ k
   partner-alone p i k j f r s = omega (arith, no-earlier p i k j f r s, no-earlier p k i j (sym f) s r)
-
-  -- ---- what the code answers for edge i, by its form
-
-  abbrev form : ℕ → ℕ
-  form i = (edgeAt N i) .form
-
-  pub form-two : (i : ℕ) → form i ≡ 2 → exceeds N i (form i) 1 ≡ lacksPartner N i
-  unfolding lacksPartner exceeds
-  form-two i f = rw f (sym (or-false _))
-
-  pub form-three : (i : ℕ) → form i ≡ 3 → exceeds N i (form i) 0 ≡ lacksPartner N i
-  unfolding lacksPartner exceeds
-  form-three i f = rw f
-
-  pub form-other : (i : ℕ) → form i ≢ 2 → form i ≢ 3 → false ≡ lacksPartner N i
-  unfolding lacksPartner exceeds
-  form-other i f g = rw (ne-eqb (form i) 2 f, ne-eqb (form i) 3 g)

@@ -6,6 +6,7 @@ pub mod Rows
 pub mod Record
 pub mod Rules
 pub mod Pairs
+pub mod EdgeNumbers
 pub mod Graph
 pub mod Search
 pub mod Checked

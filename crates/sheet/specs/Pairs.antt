@@ -41,18 +41,19 @@ pub record Paired (N : Net) : Type 0 where
 -- ---- its place
 
 -- how many of the first n edges join the ends of e, with its symbol, and have the form x
-abbrev pub beside : Net → Edge → ℕ → ℕ → ℕ
+abbrev pub beside : Net → Edge → (n x : ℕ) → ℕ
 beside N e n x = edgesBetween N n (e .end1) (e .end2) (e .symbol) x
 
--- edge i has the form x, and those of it up to this line, this one too, exceed their partners of form p on the whole sheet
+-- edge i has the form x, and the edges of that form beside it, counted in file order up to and with this line, exceed their partners, of form p, on the whole sheet
 pub record Exceeds (N : Net) (i x p : ℕ) : Type 0 where
   pub form : (edgeAt N i) .form ≡ x
   pub over : beside N (edgeAt N i) (N .«edge_count») p < beside N (edgeAt N i) (suc i) x
 
+-- its form is primed, and exceeds its partners
 abbrev pub Unpaired : Net → ℕ → Type 0
 Unpaired N i = Exceeds N i 2 1 ⊎ Exceeds N i 3 0
 
--- is edge i so? (`exceeds-iff`, `lacks-iff`)
+-- are these so? (`exceeds-iff`, `lacks-iff`)
 unfoldable pub exceeds : Net → (i x p : ℕ) → Bool
 exceeds N i x p =
     let e = edgeAt N i in
@@ -63,7 +64,8 @@ lacksPartner N i = exceeds N i 2 1 || exceeds N i 3 0
 
 -- ---- partners
 
--- edge j is the partner, of form p, of edge i alone: side by side, as many edges of i's form stand before i as partners stand before j
+-- edge j is edge i's own partner, of form p: they lie side by side, and as many edges of i's form stand before i as partners before j, so that the first has
+-- the first partner and the second the second
 pub record PartnerOf (N : Net) (p i j : ℕ) : Type 0 where
   pub below : j < N .«edge_count»
   pub between : Between ((edgeAt N i) .end1) ((edgeAt N i) .end2) ((edgeAt N i) .symbol) p (edgeAt N j)

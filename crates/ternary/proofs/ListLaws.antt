@@ -356,8 +356,11 @@ count-fewer (suc n) p q h j l e f = go (count-fewer n p q (λ k i. h k (omega ar
 pub list-ext : (n : ℕ) (p q : ℕ → Bool) → ((k : ℕ) → p k ≡ q k) → listBelow n p ≡ listBelow n q
 list-ext n p q e = ap (listBelow n) (λ i k. e k i)
 
-pub least-ext : (n : ℕ) (p q : ℕ → Bool) → ((k : ℕ) → p k ≡ q k) → leastBelow n p ≡ leastBelow n q
-least-ext n p q e = ap (leastBelow n) (λ i k. e k i)
+pub least-ext : (n : ℕ) (p q : ℕ → Bool) → ((k : ℕ) → k < n → p k ≡ q k) → leastBelow n p ≡ leastBelow n q
+unfolding leastBelow
+least-ext zero p q e = refl
+least-ext (suc n) p q e =
+    ap₂ (λ (o : Option ℕ) (b : Bool). elim o [ none ↦ cond b (some n) none | some k ↦ some k ]) (least-ext n p q (λ k l. e k (omega arith))) (e n (omega arith))
 
 -- ---- the least number with a property that a test decides
 

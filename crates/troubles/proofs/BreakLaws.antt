@@ -54,7 +54,7 @@ module _ (N : Net) (fit : Fit N) where
 
   module _ {keys ex : List ℕ} (ek : keys ≡ keyFlags N) (ee : ex ≡ excitationLanes N) where
     place : leastBelow (suc (N .«vertex_count»)) (breaking keys ex) ≡ placeC1 N
-    place = least-ext _ _ _ (λ v. rw (ek, ee, key-test v)) ∙ sym (place-c1 N fit)
+    place = least-ext _ _ _ (λ v _. rw (ek, ee, key-test v)) ∙ sym (place-c1 N fit)
 
     pub break-found : (y : ℕ) → leastBelow (suc (N .«vertex_count»)) (breaking keys ex) ≡ some y → At y ≡ foundOf (placeC1 N)
     break-found y e = rw (sym place ∙ e)

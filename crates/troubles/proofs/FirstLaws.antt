@@ -51,4 +51,4 @@ module _ (N : Net) (fit : Fit N) where
 
   pub place-c1 : placeC1 N ≡ leastBelow (suc (N .«vertex_count»)) (λ v. isKey N v && anyBelow assignments (unsettled N v))
   unfolding placeC1
-  place-c1 = least-ext (suc (N .«vertex_count»)) (breaksC1 N) _ breaks-c1
+  place-c1 = least-ext (suc (N .«vertex_count»)) (breaksC1 N) _ (λ v _. breaks-c1 v)

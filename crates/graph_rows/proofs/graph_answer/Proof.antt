@@ -3,7 +3,6 @@ use mathlib.Core.Path.{_≡_, sym, _∙_}
 use Rattle.sheet.specs.declared.Found.the-variants.{Nothing}
 use Rattle.sheet.specs.Graph.{partnerPlace, keyPlace}
 use Rattle.sheet.specs.Search.{foundOf}
-use Rattle.sheet.proofs.CheckedLaws.{checked-counts}
 use Rattle.sheet.proofs.GraphLaws.{answer-21, answer-22, answer-23, answer-none}
 use borrow.Author.Needs.{needs}
 use Rattle.graph_rows.proofs.graph_answer.Statement.{statement}
@@ -16,7 +15,7 @@ no-key : (c : tie.After-enum-told2) → foundOf (keyPlace (c .before .before .be
 no-key c = sym (c .before .before .key-row .ensures) ∙ c .enum-told2 .given .1
 
 partner-place-requires : tie.Need-partner-place-requires
-partner-place-requires c κs = checked-counts _ (c .pre) .edges
+partner-place-requires c κs = search needs
 
 enum-known-partner : tie.Need-enum-known-partner
 enum-known-partner c = search needs

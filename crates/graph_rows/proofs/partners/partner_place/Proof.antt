@@ -6,16 +6,23 @@ use mathlib.Core.Option.{none}
 use borrow.Author.Needs.{needs}
 use Rattle.ternary.specs.Lists.{leastBelow}
 use Rattle.ternary.proofs.ListLaws.{least-more, least-hit}
+use Rattle.net.specs.Limits.{mostEdges}
+use Rattle.sheet.specs.EdgeNumbers.{lacksBy}
 use Rattle.sheet.specs.Pairs.{lacksPartner}
+use Rattle.sheet.proofs.CheckedLaws.{checked-counts, checked-range}
+use Rattle.sheet.proofs.EdgeNumberLaws.{first-by}
 use Rattle.sheet.proofs.GraphLaws.{partner-found, partner-missing}
 use Rattle.graph_rows.proofs.partners.partner_place.Statement.{statement}
 use Rattle.graph_rows.proofs.partners.partner_place.Tie as tie
 
 abbrev Inv-loop : tie.InvT-loop
-Inv-loop net count above i₀ i = (i ≤ count) × (leastBelow i (lacksPartner net) ≡ none)
+Inv-loop numbers count above i₀ i = (i ≤ count) × (leastBelow i (lacksBy numbers count) ≡ none)
 
 abbrev μ-loop : tie.MeasureT-loop
-μ-loop net count above i₀ i = count - i
+μ-loop numbers count above i₀ i = count - i
+
+edge-numbers-requires : tie.Need-edge-numbers-requires Inv-loop μ-loop
+edge-numbers-requires c κs = search needs
 
 cast-count : tie.Need-cast-count Inv-loop μ-loop
 cast-count c = search needs
@@ -30,20 +37,38 @@ loop-holds : tie.Need-loop-holds Inv-loop μ-loop
 unfolding leastBelow
 loop-holds c = (search needs, λ _. none)
 
+-- ---- what is known at the loop
+
+abbrev numbered : tie.At-loop Inv-loop μ-loop → tie.After-edge-numbers Inv-loop μ-loop
+numbered c = c .before .before .before
+
+abbrev start : tie.At-loop Inv-loop μ-loop → tie.Start Inv-loop μ-loop
+start c = numbered c .before
+
+few : (c : tie.At-loop Inv-loop μ-loop) → start c .args .net .«edge_count» ≤ mostEdges
+few c = checked-counts _ (start c .pre) .edges
+
+first : (c : tie.At-loop Inv-loop μ-loop)
+    → let N = start c .args .net in leastBelow (N .«edge_count») (lacksBy (numbered c .edge-numbers .result) (N .«edge_count»)) ≡ leastBelow (N .«edge_count») (lacksPartner N)
+first c = first-by _ (few c) (checked-range _ (start c .pre)) _ (numbered c .edge-numbers .ensures)
+
+-- ---- the loop
+
 lacks-partner-requires : tie.Need-lacks-partner-requires Inv-loop μ-loop
-lacks-partner-requires c κs = search needs
+lacks-partner-requires c κs = (search needs, few (c .before .before))
 
-cast-t8 : tie.Need-cast-t8 Inv-loop μ-loop
-cast-t8 c = search needs
+cast-t11 : tie.Need-cast-t11 Inv-loop μ-loop
+cast-t11 c = let l = c .before .before .before in omega (arith, few (l .before))
 
-add-t9 : tie.Need-add-t9 Inv-loop μ-loop
-add-t9 c = search needs
+add-t12 : tie.Need-add-t12 Inv-loop μ-loop
+add-t12 c = let l = c .before .before .before in omega (arith, few (l .before))
 
 returns : tie.Need-returns Inv-loop μ-loop
 returns c =
-    let w = c .before .before .before in
-    partner-found _ (w .loop .i)
-    (least-hit (lacksPartner _) _ (w .loop .i) (w .loop .inv .1) (c .before .before .loop-test .taken) (sym (c .before .lacks-partner .ensures) ∙ c .if1 .taken))
+    let turn = c .before .before .before in
+    let l = turn .before in
+    partner-found _ (l .loop .i)
+    (sym (first l) ∙ least-hit (lacksBy _ _) _ (l .loop .i) (l .loop .inv .1) (turn .loop-test .taken) (sym (c .before .lacks-partner .ensures) ∙ c .if1 .taken))
 
 add-i : tie.Need-add-i Inv-loop μ-loop
 add-i c = search needs
@@ -53,13 +78,14 @@ loop-less c = search needs
 
 loop-again : tie.Need-loop-again Inv-loop μ-loop
 loop-again c =
-    let w = c .before .before .before in
-    (search needs, least-more (lacksPartner _) (w .loop .i) (w .loop .inv .1) (sym (c .before .lacks-partner .ensures) ∙ c .if1 .left))
+    let l = c .before .before .before .before in
+    (search needs, least-more (lacksBy _ _) (l .loop .i) (l .loop .inv .1) (sym (c .before .lacks-partner .ensures) ∙ c .if1 .left))
 
 returns-2 : tie.Need-returns-2 Inv-loop μ-loop
 returns-2 c =
-    let all : c .before .loop .i ≡ c .before .before .before .before .args .net .«edge_count» = omega arith in
-    partner-missing _ (rw all at (c .before .loop .inv .1))
+    let l = c .before in
+    let all : l .loop .i ≡ start l .args .net .«edge_count» = omega arith in
+    partner-missing _ (sym (first l) ∙ rw all at (l .loop .inv .1))
 
 pub partner-place-spec : {M : Type 1} → statement M
 partner-place-spec =
@@ -67,13 +93,14 @@ partner-place-spec =
     (tie.spec
     Inv-loop
     μ-loop
+    edge-numbers-requires
     cast-count
     cast-above
     add-above
     loop-holds
     lacks-partner-requires
-    cast-t8
-    add-t9
+    cast-t11
+    add-t12
     returns
     add-i
     loop-less
