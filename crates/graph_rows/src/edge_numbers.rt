@@ -1,5 +1,5 @@
-// Edges as numbers: one number for all edges that join the same two vertices and have the same symbol and form. To count such edges is then to compare numbers,
-// which the compiler does several at a time.
+// Edges as numbers: one number for all edges that join the same two vertices and have the same symbol and form. To count such edges is to compare numbers, and
+// the compiler compares several at a time.
 
 ghost use mathlib.Core.Path.{_≡_};
 ghost use Prim.Native.Nat.{_≤_, _<_};
@@ -13,10 +13,9 @@ use net::Edge;
 use net::Net;
 use net::Symbol;
 
-// Forms are below this number.
+// How many numbers a form, a symbol and an end may be; what stands before such a part is multiplied by that.
 pub(crate) const FORMS: u32 = 4;
 
-// What a symbol, and what an end, is multiplied by: as many as there are numbers for the parts behind it.
 const SYMBOLS: u32 = Symbol::BOUND as u32;
 
 const ENDS: u32 = Net::VERTEX_PLACES as u32;

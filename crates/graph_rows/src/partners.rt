@@ -25,7 +25,8 @@ fn exceeds_partners(numbers: &[u32; Net::MOST_EDGES], count: usize, i: usize, pa
     partners < own
 }
 
-// Is edge i of a primed form that exceeds its partners? The form is the last digit of its number: partners of form 2 have form 1, those of form 3 form 0.
+// Is edge i of a primed form that exceeds its partners? The form is its number's last digit; partners of form 2 have form 1, which is 1 less, and those of
+// form 3 have form 0, which is 3 less.
 fn lacks_partner(numbers: &[u32; Net::MOST_EDGES], count: usize, i: usize) -> bool
     requires { ⌜ (i < count) × (count ≤ mostEdges) ⌝ }
     ensures { λ r. ⌜ r ≡ lacksBy (now (numbers .entry)) count i ⌝ }

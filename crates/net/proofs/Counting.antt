@@ -1,18 +1,19 @@
--- Counting: one number more, numbers that do not count, flags, and the elements of a list. Assumes nothing.
+-- Counting: one number more, numbers that do not count, as many at least, flags, and the elements of a list. Assumes nothing.
 use mathlib.Core.Path.{_≡_, refl, ap, _∙_}
-use mathlib.Core.Bool.{Bool, true, false}
+use mathlib.Core.Bool.{Bool, true, false, not, _&&_}
 use mathlib.Core.List.{List, [], _∷_}
-use Prim.Native.Nat.{ℕ, zero, suc, _+_, _≤_}
+use Prim.Native.Nat.{ℕ, zero, suc, _+_, _≤_, _<_}
 use native.Mathlib.Decide.{le-ind}
 use native.Mathlib.Omega.{arith}
 use native.Mathlib.Numerals.{add-one}
 use lib.Dec.{eqb}
 use lib.ListN.{length, getD}
+use borrow.Author.Tests.{eqb-true, eq-eqb}
 use Rattle.ternary.specs.Bits.{digit}
 use Rattle.ternary.specs.Lists.{table, countBelow}
 use Rattle.ternary.proofs.BitLaws.{eqb-digit}
-use Rattle.ternary.proofs.Tests.{by-test}
-use Rattle.ternary.proofs.ListLaws.{length-table, getD-table, count-ext}
+use Rattle.ternary.proofs.Tests.{and-left, by-test, fails}
+use Rattle.ternary.proofs.ListLaws.{length-table, getD-table, count-ext, count-fewer}
 
 module _ (p : ℕ → Bool) where
   pub count-on : (n : ℕ) → p n ≡ true → countBelow n p + 1 ≡ countBelow (n + 1) p
@@ -27,6 +28,26 @@ module _ (p : ℕ → Bool) where
   pub count-above : (n m : ℕ) → n ≤ m → ((j : ℕ) → n ≤ j → p j ≡ false) → countBelow m p ≡ countBelow n p
   unfolding countBelow
   count-above n m h e = le-ind (λ (k : ℕ). countBelow k p ≡ countBelow n p) refl (λ k l ih. rw (e k l) ih) m h
+
+-- each number that passes p has one that passes q, and no two have the same: then at least as many pass q
+pub count-apart : (n m : ℕ) (p q : ℕ → Bool) (f : ℕ → ℕ) → ((i : ℕ) → i < n → p i ≡ true → (f i < m) × (q (f i) ≡ true))
+    → ((i k : ℕ) → i < n → k < n → p i ≡ true → p k ≡ true → f i ≡ f k → i ≡ k) → countBelow n p ≤ countBelow m q
+unfolding countBelow
+count-apart zero m p q f to apart = omega arith
+count-apart (suc n) m p q f to apart =
+    by-test (p n)
+    (λ t.
+    let rest : ℕ → Bool = λ j. q j && not (eqb j (f n)) in
+    let last = to n (omega arith) t in
+    let other : (i : ℕ) → i < n → p i ≡ true → eqb (f i) (f n) ≡ false =
+    λ i h u. fails (eqb (f i) (f n)) (λ e. omega (arith, apart i n (omega arith) (omega arith) u t (eqb-true (f i) (f n) e))) in
+    let fewer = count-fewer m q rest (λ j h u. and-left (q j) _ u) (f n) (last .0) (last .1) (rw (last .1, eq-eqb (f n) (f n) refl)) in
+    let before =
+    count-apart n m p rest f
+    (λ i h u. let r = to i (omega arith) u in (r .0, rw (r .1, other i h u)))
+    (λ i k h l. apart i k (omega arith) (omega arith)) in
+    rw t (omega arith))
+    (λ t. rw t (count-apart n m p q f (λ i h. to i (omega arith)) (λ i k h l. apart i k (omega arith) (omega arith))))
 
 -- the flags of a table
 pub count-table : (n : ℕ) (p : ℕ → Bool) (r : List ℕ) → r ≡ table n (λ j. digit (p j)) → countBelow (length r) (λ i. eqb (getD r i 0) 1) ≡ countBelow n p

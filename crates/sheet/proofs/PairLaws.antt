@@ -1,18 +1,20 @@
--- What pairing says: the rule holds exactly if no edge exceeds its partners, and then each edge of a primed form has a partner that no other edge has.
+-- What pairing says: the rule holds exactly if no edge exceeds its partners, and exactly if each edge of a primed form can have a partner of its own.
 use Prim.Native.Nat.{ℕ, zero, suc, _≤_, _<_}
 use native.Mathlib.Omega.{arith}
-use mathlib.Core.Path.{_≡_, refl, sym, ap, _∙_}
+use mathlib.Core.Path.{_≡_, refl, sym, subst, _∙_}
 use mathlib.Core.Logic.{inl, inr, ⊎-elim, _↔_}
 use mathlib.Core.Bool.{Bool, true, false, _&&_}
 use lib.Dec.{ltb, eqb}
+use lib.ListN.{getD}
 use borrow.Author.Tests.{eqb-true, eq-eqb, ltb-true, ltb-false, lt-ltb}
 use Rattle.net.specs.declared.Edge.{Edge}
 use Rattle.net.specs.declared.Net.{Net}
 use Rattle.net.specs.Graph.{edgeAt}
-use Rattle.ternary.specs.Lists.{countBelow}
+use Rattle.net.proofs.Counting.{count-apart}
+use Rattle.ternary.specs.Lists.{countBelow, listBelow}
 use Rattle.ternary.proofs.Tests.{ands, both, or-true, or-left, or-right, fails, not-both, by-test, same-test}
-use Rattle.ternary.proofs.ListLaws.{count-ext, count-mono, place-at}
-use Rattle.sheet.specs.Pairs.{Between, isBetween, edgesBetween, NoMore, Paired, beside, Exceeds, Unpaired, exceeds, lacksPartner, PartnerOf, Partnered}
+use Rattle.ternary.proofs.ListLaws.{count-ext, count-mono, At, place-at}
+use Rattle.sheet.specs.Pairs.{Between, isBetween, edgesBetween, NoMore, Paired, beside, Exceeds, Unpaired, exceeds, lacksPartner, HasForm, Partnered}
 
 -- ---- an edge between two vertices
 
@@ -44,10 +46,6 @@ between-iff u v s x f = (there, back)
         both (both (eq-eqb (f .form) x (b .form)) (eq-eqb (f .symbol) s (b .symbol)))
         (⊎-elim (λ h. or-left (ends f u v) _ (ends-iff f u v .1 h)) (λ h. or-right (ends f u v) _ (ends-iff f v u .1 h)) (b .joins))
 
--- an edge is beside itself
-itself : (e : Edge) → Between (e .end1) (e .end2) (e .symbol) (e .form) e
-itself e = record { joins = inl (refl, refl); symbol = refl; form = refl }
-
 turned : {u v s x : ℕ} {f : Edge} → Between u v s x f → Between v u s x f
 turned b = record { joins = ⊎-elim inr inl (b .joins); symbol = b .symbol; form = b .form }
 
@@ -57,16 +55,20 @@ either-way u v s x f =
     (λ t. between-iff v u s x f .1 (turned (between-iff u v s x f .0 t)))
     (λ t. between-iff u v s x f .1 (turned (between-iff v u s x f .0 t)))
 
--- beside an edge between u and v stand the edges between u and v
-pub beside-same : (N : Net) {u v s x : ℕ} {e : Edge} → Between u v s x e → (n z : ℕ) → beside N e n z ≡ edgesBetween N n u v s z
-unfolding edgesBetween
-beside-same N {u} {v} {s} {x} {e} b n z = count-ext n _ _ (λ k _. ⊎-elim (along k) (across k) (b .joins))
-  where
-    along : (k : ℕ) → (e .end1 ≡ u) × (e .end2 ≡ v) → isBetween (e .end1) (e .end2) (e .symbol) z (edgeAt N k) ≡ isBetween u v s z (edgeAt N k)
-    along k h = rw (h .0, h .1, b .symbol)
+-- an edge between u and v has the edges between u and v beside it
+module _ {u v s x : ℕ} {e : Edge} (b : Between u v s x e) where
+  between-same : (z : ℕ) (g : Edge) → isBetween (e .end1) (e .end2) (e .symbol) z g ≡ isBetween u v s z g
+  between-same z g = ⊎-elim along across (b .joins)
+    where
+      along : (e .end1 ≡ u) × (e .end2 ≡ v) → isBetween (e .end1) (e .end2) (e .symbol) z g ≡ isBetween u v s z g
+      along h = rw (h .0, h .1, b .symbol)
 
-    across : (k : ℕ) → (e .end1 ≡ v) × (e .end2 ≡ u) → isBetween (e .end1) (e .end2) (e .symbol) z (edgeAt N k) ≡ isBetween u v s z (edgeAt N k)
-    across k h = rw (h .0, h .1, b .symbol) (either-way v u s z (edgeAt N k))
+      across : (e .end1 ≡ v) × (e .end2 ≡ u) → isBetween (e .end1) (e .end2) (e .symbol) z g ≡ isBetween u v s z g
+      across h = rw (h .0, h .1, b .symbol) (either-way v u s z g)
+
+  beside-same : (N : Net) (n z : ℕ) → beside N e n z ≡ edgesBetween N n u v s z
+  unfolding edgesBetween
+  beside-same N n z = count-ext n _ _ (λ k _. between-same z (edgeAt N k))
 
 module _ (N : Net) where
   abbrev E : ℕ
@@ -92,8 +94,10 @@ module _ (N : Net) where
     between-rise m n h = count-mono (λ j. isBetween u v s x (edgeAt N j)) m n h
 
   -- edge i is one of those beside it
-  counts-itself : (i : ℕ) → beside N (edgeAt N i) (suc i) ((edgeAt N i) .form) ≡ suc (beside N (edgeAt N i) i ((edgeAt N i) .form))
-  counts-itself i = let e = edgeAt N i in between-more (e .end1) (e .end2) (e .symbol) (e .form) i (between-iff _ _ _ _ e .1 (itself e))
+  counts-itself : (x i : ℕ) → (edgeAt N i) .form ≡ x → beside N (edgeAt N i) (suc i) x ≡ suc (beside N (edgeAt N i) i x)
+  counts-itself x i f =
+      let e = edgeAt N i in
+      between-more (e .end1) (e .end2) (e .symbol) x i (between-iff _ _ _ _ e .1 (record { joins = inl (refl, refl); symbol = refl; form = f }))
 
   -- ---- the rule for a form x and its partners' form p: no edge exceeds its partners
 
@@ -114,7 +118,7 @@ module _ (N : Net) where
         here t =
             let b = between-iff u v s x (edgeAt N n) .0 t in
             by-test (ltb (edgesBetween N E u v s p) (edgesBetween N (suc n) u v s x))
-            (λ o. absurd (f n h (record { form = b .form; over = rw (beside-same N b E p, beside-same N b (suc n) x) (ltb-true _ _ o) })))
+            (λ o. absurd (f n h (record { form = b .form; over = rw (beside-same b N E p, beside-same b N (suc n) x) (ltb-true _ _ o) })))
             (ltb-false _ _)
 
     pub no-more-iff : ((i : ℕ) → i < E → ¬ Exceeds N i x p) ↔ NoMore N x p
@@ -151,58 +155,75 @@ module _ (N : Net) where
 
   -- ---- partners
 
-  -- an edge whose form is not outnumbered has a partner; with one it does not exceed them
-  has-partner : (p i : ℕ) → i < E → NoMore N ((edgeAt N i) .form) p → (j : ℕ) × PartnerOf N p i j
-  unfolding edgesBetween
-  has-partner p i h m =
-      let e = edgeAt N i in
-      let enough : beside N e i (e .form) < beside N e E p =
-      omega (arith, counts-itself i, between-rise (e .end1) (e .end2) (e .symbol) (e .form) (suc i) E h, m (e .end1) (e .end2) (e .symbol)) in
-      let r = place-at (λ j. isBetween (e .end1) (e .end2) (e .symbol) p (edgeAt N j)) E (beside N e i (e .form)) enough in
-      (r .0, record { below = r .1 .below; between = between-iff _ _ _ _ (edgeAt N (r .0)) .0 (r .1 .passes); order = sym (r .1 .place) })
+  module _ (x p : ℕ) where
+    -- may edge j be edge i's partner?
+    abbrev fits : ℕ → ℕ → Bool
+    fits i j = let e = edgeAt N i in isBetween (e .end1) (e .end2) (e .symbol) p (edgeAt N j)
 
-  partner-suffices : (p i j : ℕ) → PartnerOf N p i j → ¬ Exceeds N i ((edgeAt N i) .form) p
-  partner-suffices p i j r o =
-      let e = edgeAt N i in
-      let more = between-more (e .end1) (e .end2) (e .symbol) p j (between-iff _ _ _ _ (edgeAt N j) .1 (r .between)) in
-      omega (arith, o .over, counts-itself i, r .order, more, between-rise (e .end1) (e .end2) (e .symbol) p (suc j) E (r .below))
+    -- the first of some edges side by side takes the first of those that fit, the second the second
+    rank : ℕ → ℕ
+    rank i = beside N (edgeAt N i) i x
 
-  pub partnered-iff : Paired N ↔ Partnered N
-  partnered-iff = (there, back)
-    where
-      there : Paired N → Partnered N
-      there r =
-          record {
-            two = λ i h f. has-partner 1 i h (rw f (r .two));
-            three = λ i h f. has-partner 0 i h (rw f (r .three));
-          }
+    inTurn : ℕ → ℕ
+    inTurn i = getD (listBelow E (fits i)) (rank i) 0
 
-      back : Partnered N → Paired N
-      back r =
-          record {
-            two = no-more-iff 2 1 .0 (λ i h o. let s = r .two i h (o .form) in partner-suffices 1 i (s .0) (s .1) (rw (o .form) o));
-            three = no-more-iff 3 0 .0 (λ i h o. let s = r .three i h (o .form) in partner-suffices 0 i (s .0) (s .1) (rw (o .form) o));
-          }
+    there-is : NoMore N x p → (i : ℕ) → HasForm N x i → At (fits i) E (rank i) (inTurn i)
+    unfolding edgesBetween rank inTurn
+    there-is m i h =
+        let e = edgeAt N i in
+        let enough : rank i < beside N e E p =
+        omega (arith, counts-itself x i (h .1), between-rise (e .end1) (e .end2) (e .symbol) x (suc i) E (h .0), m (e .end1) (e .end2) (e .symbol)) in
+        let r = place-at (fits i) E (rank i) enough in
+        subst (At (fits i) E (rank i)) (sym (r .1 .reads)) (r .1)
 
-  -- of two edges with one partner neither stands before the other
-  no-earlier : (p i k j : ℕ) → (edgeAt N i) .form ≡ (edgeAt N k) .form → PartnerOf N p i j → PartnerOf N p k j → k ≤ i
-  no-earlier p i k j f r s =
-      let d = edgeAt N i in
-      let e = edgeAt N k in
-      by-test (ltb i k)
-      (λ t.
-      absurd
-      (omega (
-        arith,
-        counts-itself i,
-        r .order,
-        s .order,
-        between-rise (d .end1) (d .end2) (d .symbol) (d .form) (suc i) k (ltb-true i k t),
-        sym (beside-same N (r .between) j p) ∙ beside-same N (s .between) j p,
-        sym (beside-same N (r .between) k (d .form)) ∙ beside-same N (s .between) k (d .form) ∙ ap (beside N e k) f,
-      )))
-      (ltb-false i k)
+    -- of two edges with one partner neither stands before the other
+    not-before : (i k j : ℕ) → HasForm N x i → HasForm N x k → At (fits i) E (rank i) j → At (fits k) E (rank k) j → k ≤ i
+    unfolding edgesBetween rank
+    not-before i k j h l r s =
+        let d = edgeAt N i in
+        let e = edgeAt N k in
+        let a = between-iff _ _ _ _ (edgeAt N j) .0 (r .passes) in
+        let b = between-iff _ _ _ _ (edgeAt N j) .0 (s .passes) in
+        let first : beside N d j p ≡ beside N d i x = r .place in
+        let second : beside N e j p ≡ beside N e k x = s .place in
+        by-test (ltb i k)
+        (λ t.
+        absurd
+        (omega (
+          arith,
+          first,
+          second,
+          counts-itself x i (h .1),
+          between-rise (d .end1) (d .end2) (d .symbol) x (suc i) k (ltb-true i k t),
+          sym (beside-same a N j p) ∙ beside-same b N j p,
+          sym (beside-same a N k x) ∙ beside-same b N k x,
+        )))
+        (ltb-false i k)
 
-  -- an edge is the partner of one edge of a form only
-  pub partner-alone : (p i k j : ℕ) → (edgeAt N i) .form ≡ (edgeAt N k) .form → PartnerOf N p i j → PartnerOf N p k j → i ≡ k
-  partner-alone p i k j f r s = omega (arith, no-earlier p i k j f r s, no-earlier p k i j (sym f) s r)
+    in-turn : NoMore N x p → Partnered N x p
+    in-turn m =
+        record {
+          partner = inTurn;
+          in-use = λ i h. there-is m i h .below;
+          parallel = λ i h. between-iff _ _ _ _ (edgeAt N (inTurn i)) .0 (there-is m i h .passes);
+          own = λ i k h l q.
+              let r = there-is m i h in
+              let s = subst (At (fits k) E (rank k)) (sym q) (there-is m k l) in
+              omega (arith, not-before i k (inTurn i) h l r s, not-before k i (inTurn i) l h s r);
+        }
+
+    enough-partners : Partnered N x p → NoMore N x p
+    unfolding edgesBetween
+    enough-partners r u v s =
+        count-apart E E (λ i. isBetween u v s x (edgeAt N i)) (λ j. isBetween u v s p (edgeAt N j)) (r .partner)
+        (λ i h t.
+        let b = between-iff u v s x (edgeAt N i) .0 t in
+        let j = r .partner i in
+        (r .in-use i (h, b .form), sym (between-same b p (edgeAt N j)) ∙ between-iff _ _ _ _ (edgeAt N j) .1 (r .parallel i (h, b .form))))
+        (λ i k h l t w. r .own i k (h, between-iff u v s x (edgeAt N i) .0 t .form) (l, between-iff u v s x (edgeAt N k) .0 w .form))
+
+  pub partnered-iff : Paired N ↔ (Partnered N 2 1 × Partnered N 3 0)
+  partnered-iff = (
+    λ r. (in-turn 2 1 (r .two), in-turn 3 0 (r .three)),
+    λ r. record { two = enough-partners 2 1 (r .0); three = enough-partners 3 0 (r .1) },
+  )

@@ -62,16 +62,15 @@ exceeds N i x p =
 unfoldable pub lacksPartner : Net → ℕ → Bool
 lacksPartner N i = exceeds N i 2 1 || exceeds N i 3 0
 
--- ---- partners
+-- ---- what the counts stand for: partners (`partnered-iff`)
 
--- edge j is edge i's own partner, of form p: they lie side by side, and as many edges of i's form stand before i as partners before j, so that the first has
--- the first partner and the second the second
-pub record PartnerOf (N : Net) (p i j : ℕ) : Type 0 where
-  pub below : j < N .«edge_count»
-  pub between : Between ((edgeAt N i) .end1) ((edgeAt N i) .end2) ((edgeAt N i) .symbol) p (edgeAt N j)
-  pub order : beside N (edgeAt N i) i ((edgeAt N i) .form) ≡ beside N (edgeAt N i) j p
+-- edge i is in use and has the form x
+abbrev pub HasForm : Net → (x i : ℕ) → Type 0
+HasForm N x i = (i < N .«edge_count») × ((edgeAt N i) .form ≡ x)
 
--- every edge of a primed form has one
-pub record Partnered (N : Net) : Type 0 where
-  pub two : (i : ℕ) → i < N .«edge_count» → (edgeAt N i) .form ≡ 2 → (j : ℕ) × PartnerOf N 1 i j
-  pub three : (i : ℕ) → i < N .«edge_count» → (edgeAt N i) .form ≡ 3 → (j : ℕ) × PartnerOf N 0 i j
+-- each edge of form x can be given a partner of form p, between its own ends and of its symbol, that no other of them has
+pub record Partnered (N : Net) (x p : ℕ) : Type 0 where
+  pub partner : ℕ → ℕ
+  pub in-use : (i : ℕ) → HasForm N x i → partner i < N .«edge_count»
+  pub parallel : (i : ℕ) → HasForm N x i → Between ((edgeAt N i) .end1) ((edgeAt N i) .end2) ((edgeAt N i) .symbol) p (edgeAt N (partner i))
+  pub own : (i k : ℕ) → HasForm N x i → HasForm N x k → partner i ≡ partner k → i ≡ k
