@@ -8,10 +8,17 @@ use borrow.Author.Needs.{needs}
 use Rattle.graph_rows.proofs.graph_answer.Statement.{statement}
 use Rattle.graph_rows.proofs.graph_answer.Tie as tie
 
-no-partner : (c : tie.After-enum-told) → foundOf (partnerPlace (c .before .before .before .args .net)) ≡ Nothing
+-- each place from the next: the start, past row 21, past row 22
+abbrev start : tie.After-enum-told → tie.Start
+start c = c .before .before .before
+
+abbrev past-partner : tie.After-enum-told2 → tie.After-enum-told
+past-partner c = c .before .before .before
+
+no-partner : (c : tie.After-enum-told) → foundOf (partnerPlace (start c .args .net)) ≡ Nothing
 no-partner c = sym (c .before .before .partner-place .ensures) ∙ c .enum-told .given .1
 
-no-key : (c : tie.After-enum-told2) → foundOf (keyPlace (c .before .before .before .before .before .before .args .net)) ≡ Nothing
+no-key : (c : tie.After-enum-told2) → foundOf (keyPlace (start (past-partner c) .args .net)) ≡ Nothing
 no-key c = sym (c .before .before .key-row .ensures) ∙ c .enum-told2 .given .1
 
 partner-place-requires : tie.Need-partner-place-requires
@@ -49,7 +56,7 @@ enum-known-signal c = search needs
 returns-3 : tie.Need-returns-3
 returns-3 c =
     let g = c .before .before .before in
-    answer-23 _ _ (no-partner (g .before .before .before .before)) (no-key (g .before)) (sym (g .signal-row .ensures) ∙ c .before .signal .given .1)
+    answer-23 _ _ (no-partner (past-partner (g .before))) (no-key (g .before)) (sym (g .signal-row .ensures) ∙ c .before .signal .given .1)
 
 enum-told-3 : tie.Need-enum-told-3
 enum-told-3 c = search needs
@@ -57,7 +64,7 @@ enum-told-3 c = search needs
 returns-4 : tie.Need-returns-4
 returns-4 c =
     let g = c .before .before in
-    answer-none _ (no-partner (g .before .before .before .before)) (no-key (g .before)) (sym (g .signal-row .ensures) ∙ c .enum-told3 .given .1)
+    answer-none _ (no-partner (past-partner (g .before))) (no-key (g .before)) (sym (g .signal-row .ensures) ∙ c .enum-told3 .given .1)
 
 pub graph-answer-spec : {M : Type 1} → statement M
 graph-answer-spec =

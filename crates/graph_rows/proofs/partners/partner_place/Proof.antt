@@ -54,21 +54,24 @@ first c = first-by _ (few c) (checked-range _ (start c .pre)) _ (numbered c .edg
 
 -- ---- the loop
 
+abbrev turn : tie.After-lacks-partner Inv-loop μ-loop → tie.In-loop Inv-loop μ-loop
+turn c = c .before .before
+
 lacks-partner-requires : tie.Need-lacks-partner-requires Inv-loop μ-loop
 lacks-partner-requires c κs = (search needs, few (c .before .before))
 
 cast-t11 : tie.Need-cast-t11 Inv-loop μ-loop
-cast-t11 c = let l = c .before .before .before in omega (arith, few (l .before))
+cast-t11 c = omega (arith, few (turn (c .before) .before))
 
 add-t12 : tie.Need-add-t12 Inv-loop μ-loop
-add-t12 c = let l = c .before .before .before in omega (arith, few (l .before))
+add-t12 c = omega (arith, few (turn (c .before) .before))
 
 returns : tie.Need-returns Inv-loop μ-loop
 returns c =
-    let turn = c .before .before .before in
-    let l = turn .before in
+    let t = turn (c .before) in
+    let l = t .before in
     partner-found _ (l .loop .i)
-    (sym (first l) ∙ least-hit (lacksBy _ _) _ (l .loop .i) (l .loop .inv .1) (turn .loop-test .taken) (sym (c .before .lacks-partner .ensures) ∙ c .if1 .taken))
+    (sym (first l) ∙ least-hit (lacksBy _ _) _ (l .loop .i) (l .loop .inv .1) (t .loop-test .taken) (sym (c .before .lacks-partner .ensures) ∙ c .if1 .taken))
 
 add-i : tie.Need-add-i Inv-loop μ-loop
 add-i c = search needs
@@ -78,7 +81,7 @@ loop-less c = search needs
 
 loop-again : tie.Need-loop-again Inv-loop μ-loop
 loop-again c =
-    let l = c .before .before .before .before in
+    let l = turn (c .before) .before in
     (search needs, least-more (lacksBy _ _) (l .loop .i) (l .loop .inv .1) (sym (c .before .lacks-partner .ensures) ∙ c .if1 .left))
 
 returns-2 : tie.Need-returns-2 Inv-loop μ-loop
