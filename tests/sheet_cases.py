@@ -1,7 +1,7 @@
 #!/usr/bin/env python3
-"""Cases for the reader, the one-line call and the job line, with the answers that document 01 asks for.
+"""Cases for the reader, the one-line call and the job line, with the answers that document 01 asks for, and document 02 where a request has changed a row.
 
-Each case has a note: the row or sentence of document 01 that its answer follows from. Running this file writes the input and the expected
+Each case has a note: the row or sentence that its answer follows from. Running this file writes the input and the expected
 output of the test program `sheet_cases`. The expected numbers are worked out here by hand, never taken from a run.
 
 The kinds of cases: S a sheet, L one line of a sheet, whose number the case has, J a job line; s, l and j the same in as many columns a field as the case
@@ -174,8 +174,8 @@ read(21, 8, "row 21: form 3 without a form 0 edge of the same symbol and ends", 
 read(21, 8, "row 21: a partner has the same symbol", worked(l8=(3, 3, 4, 3, 11), l9=(3, 4, 3, 0, 103)))
 read(21, 8, "row 21: form 3 needs form 0, not form 1", worked(l8=(3, 3, 4, 3, 11), l9=(3, 4, 3, 1, 11)))
 
-# Document 02, C-13: between any two vertices and for each symbol, form 2 does not outnumber form 1, nor form 3 form 0; the place is the first line whose
-# primed form, counted in file order, exceeds its partners on the whole sheet. In each sheet below the edges join 3 and 4 unless the note says otherwise.
+# Document 02, C-13: for two vertices and a symbol there are at most as many edges of form 2 as of form 1, and of form 3 as of form 0. The place is the first line
+# with which its form has more edges than the whole sheet has partners. In each sheet below the edges join 3 and 4 unless the note says otherwise.
 read(0, 0, "between two vertices: in either order of the ends", drawn((3, 4, 3, 11), (4, 3, 0, 11)))
 read(0, 0, "on the whole sheet: a partner after its edge", drawn((3, 4, 3, 11), (3, 4, 0, 11)))
 read(0, 0, "on the whole sheet: a partner before its edge", drawn((3, 4, 0, 11), (3, 4, 3, 11)))

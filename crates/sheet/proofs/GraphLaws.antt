@@ -29,7 +29,7 @@ use Rattle.sheet.proofs.PairLaws.{lacks-iff, paired-iff}
 module _ (N : Net) where
   -- ---- 21: pairs
 
-  -- silent exactly if the rule holds between any two vertices and for each symbol
+  -- silent exactly if the rule holds for any two vertices and any symbol
   pub partner-none : (partnerPlace N ≡ none) ↔ Paired N
   unfolding partnerPlace
   partner-none = (
@@ -37,7 +37,7 @@ module _ (N : Net) where
     λ r. map-eq-none-iff (edgePlace N) _ .1 (least-none (lacksPartner N) (N .«edge_count») .1 (paired-iff N .1 r)),
   )
 
-  -- the first line whose primed form, counted in file order, exceeds its partners on the whole sheet
+  -- the first line that is one too many
   pub record FirstUnpaired (place : ℕ) : Type 0 where
     pub edge : ℕ
     pub below : edge < N .«edge_count»

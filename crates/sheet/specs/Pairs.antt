@@ -29,11 +29,11 @@ edgesBetween N n u v s x = countBelow n (λ j. isBetween u v s x (edgeAt N j))
 
 -- ---- the rule, over the whole sheet
 
--- between any two vertices, and for each symbol, edges of form x do not outnumber those of form p
+-- for any two vertices and any symbol there are at most as many edges of form x as of form p
 abbrev pub NoMore : Net → (x p : ℕ) → Type 0
 NoMore N x p = (u v s : ℕ) → edgesBetween N (N .«edge_count») u v s x ≤ edgesBetween N (N .«edge_count») u v s p
 
--- form 2 does not outnumber form 1, nor form 3 form 0
+-- at most as many of form 2 as of form 1, and of form 3 as of form 0
 pub record Paired (N : Net) : Type 0 where
   pub two : NoMore N 2 1
   pub three : NoMore N 3 0
@@ -44,12 +44,13 @@ pub record Paired (N : Net) : Type 0 where
 abbrev pub beside : Net → Edge → (n x : ℕ) → ℕ
 beside N e n x = edgesBetween N n (e .end1) (e .end2) (e .symbol) x
 
--- edge i has the form x, and the edges of that form beside it, counted in file order up to and with this line, exceed their partners, of form p, on the whole sheet
+-- edge i has the form x and is one too many: the edges of that form beside it, down to its own line, are more than their partners, of form p, anywhere on the
+-- sheet
 pub record Exceeds (N : Net) (i x p : ℕ) : Type 0 where
   pub form : (edgeAt N i) .form ≡ x
   pub over : beside N (edgeAt N i) (N .«edge_count») p < beside N (edgeAt N i) (suc i) x
 
--- its form is primed, and exceeds its partners
+-- the same of a primed form: 2 with its partners of form 1, or 3 with those of form 0
 abbrev pub Unpaired : Net → ℕ → Type 0
 Unpaired N i = Exceeds N i 2 1 ⊎ Exceeds N i 3 0
 
