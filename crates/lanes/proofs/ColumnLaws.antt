@@ -10,10 +10,11 @@ use lib.Dec.{eqb}
 use lib.ListN.{length, getD, set, length-set}
 use lib.Seq.{getD-set-same, getD-set-other, ext-getD}
 use borrow.Author.Tests.{eqb-true, eqb-false}
+use Rattle.ternary.proofs.BitLaws.{quotient-rest}
 use Rattle.ternary.proofs.ListLaws.{below-cases, length-table, getD-table}
 use Rattle.ternary.proofs.Tests.{cond-by}
 use Rattle.lanes.specs.Grid.{grid, cell, setColumn}
-use Rattle.lanes.proofs.GridLaws.{cell-index, cell-inside, length-grid, grid-cell, grid-list}
+use Rattle.lanes.proofs.GridLaws.{cell-inside, length-grid, grid-cell, grid-list}
 
 pub length-setColumn : (w k : ℕ) (f : ℕ → ℕ) (r : List ℕ) → length (setColumn w k f r) ≡ length r
 unfolding setColumn
@@ -30,7 +31,7 @@ setColumn-grid w n k f g h same other =
   where
     entry : (v a : ℕ) → v < n → a < w → cell w (setColumn w k f (grid w n g)) v a ≡ h v a
     entry v a l b =
-        let i = cell-index w v a b in
+        let i = quotient-rest w v a b in
         setColumn-read w k f (grid w n g) (v * w + a) (omega (arith, length-grid w n g, cell-inside w n v a b l))
         ∙ rw (i .0, i .1)
         (cond-by (λ (x : ℕ). x ≡ h v a) (eqb a k)
@@ -55,7 +56,7 @@ column-step {w} {k} {f} {r₀} {r} {v} {x} m h l e =
     record {
       size = length-set r _ x ∙ m .size;
       stored = λ u i. go u (below-cases {i = u} {n = v} (omega arith));
-      kept = λ i o. getD-set-other r (v * w + k) i x 0 (λ q. o (ap (λ (j : ℕ). j % w) q ∙ cell-index w v k h .1)) ∙ m .kept i o;
+      kept = λ i o. getD-set-other r (v * w + k) i x 0 (λ q. o (ap (λ (j : ℕ). j % w) q ∙ quotient-rest w v k h .1)) ∙ m .kept i o;
     }
   where
     go : (u : ℕ) → (u < v) ⊎ (u ≡ v) → cell w (set r (v * w + k) x) u k ≡ f u

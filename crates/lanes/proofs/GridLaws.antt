@@ -4,25 +4,18 @@ use mathlib.Core.Path.{_≡_, refl, sym, ap, ap₂, subst, _∙_}
 use mathlib.Core.Bool.{Bool, false, cond, _&&_}
 use mathlib.Core.Logic.{_⊎_, inl, inr, _≢_}
 use mathlib.Core.List.{List}
-use native.Mathlib.Nat.{zero-add, mul-zero, suc-mul, mul-le-mul-right, div-eq-of-lt, mod-eq-of-lt, mod-lt, mul-add-div-right, mul-add-mod-self-right, div-add-mod', div-lt-iff-lt-mul, le-div-iff-mul-le}
+use native.Mathlib.Nat.{zero-add, mul-zero, suc-mul, mul-le-mul-right, mod-lt, div-add-mod', div-lt-iff-lt-mul, le-div-iff-mul-le}
 use native.Mathlib.Omega.{arith}
 use lib.Dec.{eqb, leb, ltb}
 use lib.ListN.{length, getD, set, length-set, List·getD-eq-default}
 use lib.Seq.{getD-set-same, getD-set-other, ext-getD}
 use borrow.Author.Tests.{eqb-true, eqb-false, eq-eqb, ne-eqb, le-leb, lt-leb, ltb-true, ltb-false, lt-ltb, le-ltb}
+use Rattle.ternary.proofs.BitLaws.{quotient-rest}
 use Rattle.ternary.proofs.ListLaws.{below-cases, length-table, getD-table, table-ext}
 use Rattle.ternary.proofs.Tests.{by-test, cond-by}
 use Rattle.lanes.specs.Grid.{grid, cell, setRow, setRows}
 
 -- ---- places
-
--- entry a of row v stands at a place that tells v and a
-pub cell-index : (w v a : ℕ) → a < w → ((v * w + a) / w ≡ v) × ((v * w + a) % w ≡ a)
-cell-index w v a h =
-    let q : a / w ≡ 0 = div-eq-of-lt h in (
-      mul-add-div-right (omega arith) v a ∙ omega (arith, q),
-      mul-add-mod-self-right v w a ∙ mod-eq-of-lt h,
-    )
 
 pub cell-inside : (w n v a : ℕ) → a < w → v < n → v * w + a < n * w
 cell-inside w n v a h l = omega (arith, suc-mul v w, mul-le-mul-right w l)
@@ -47,7 +40,7 @@ length-grid w n f = length-table (n * w) _
 pub grid-cell : (w n : ℕ) (f : ℕ → ℕ → ℕ) (v a : ℕ) → v < n → a < w → cell w (grid w n f) v a ≡ f v a
 unfolding grid
 grid-cell w n f v a l h =
-    getD-table (n * w) (λ i. f (i / w) (i % w)) (v * w + a) 0 (cell-inside w n v a h l) ∙ ap₂ f (cell-index w v a h .0) (cell-index w v a h .1)
+    getD-table (n * w) (λ i. f (i / w) (i % w)) (v * w + a) 0 (cell-inside w n v a h l) ∙ ap₂ f (quotient-rest w v a h .0) (quotient-rest w v a h .1)
 
 -- a list with the entries of a grid
 pub grid-list : (w n : ℕ) (f : ℕ → ℕ → ℕ) (r : List ℕ) → length r ≡ n * w → ((v a : ℕ) → v < n → a < w → cell w r v a ≡ f v a) → r ≡ grid w n f
@@ -71,14 +64,14 @@ setRow-read w v f r i l = getD-table (length r) (λ i. cond (eqb (i / w) v) (f (
 pub setRow-same : (w v : ℕ) (f : ℕ → ℕ) (r : List ℕ) (a : ℕ) → a < w → v * w + a < length r → cell w (setRow w v f r) v a ≡ f a
 setRow-same w v f r a h l =
     setRow-read w v f r (v * w + a) l
-    ∙ ap (λ (b : Bool). cond b (f ((v * w + a) % w)) (cell w r v a)) (eq-eqb _ v (cell-index w v a h .0))
-    ∙ ap f (cell-index w v a h .1)
+    ∙ ap (λ (b : Bool). cond b (f ((v * w + a) % w)) (cell w r v a)) (eq-eqb _ v (quotient-rest w v a h .0))
+    ∙ ap f (quotient-rest w v a h .1)
 
 -- out of range both are 0
 pub setRow-other : (w v : ℕ) (f : ℕ → ℕ) (r : List ℕ) (u a : ℕ) → a < w → u ≢ v → cell w (setRow w v f r) u a ≡ cell w r u a
 setRow-other w v f r u a h n =
     by-test (ltb i (length r))
-    (λ t. setRow-read w v f r i (ltb-true i _ t) ∙ ap (λ (b : Bool). cond b (f (i % w)) (getD r i 0)) (ne-eqb _ v (λ e. n (sym (cell-index w u a h .0) ∙ e))))
+    (λ t. setRow-read w v f r i (ltb-true i _ t) ∙ ap (λ (b : Bool). cond b (f (i % w)) (getD r i 0)) (ne-eqb _ v (λ e. n (sym (quotient-rest w u a h .0) ∙ e))))
     (λ t. List·getD-eq-default (setRow w v f r) 0 (omega (arith, ltb-false i _ t, length-setRow w v f r)) ∙ sym (List·getD-eq-default r 0 (ltb-false i _ t)))
   where
     i : ℕ
@@ -173,12 +166,12 @@ setRows-step w v n f r₀ e d = d ∙ ap (setRow w (v + n) (f n)) e ∙ setRows-
 
 pub setRows-same : (w v n : ℕ) (f : ℕ → ℕ → ℕ) (r : List ℕ) (k a : ℕ) → k < n → a < w → (v + k) * w + a < length r → cell w (setRows w v n f r) (v + k) a ≡ f k a
 setRows-same w v n f r k a b h l =
-    let i = cell-index w (v + k) a h in
+    let i = quotient-rest w (v + k) a h in
     setRows-in w v n f r ((v + k) * w + a) l (rw (i .0) (omega arith), rw (i .0) (omega arith))
     ∙ ap₂ f (ap (λ (x : ℕ). x - v) (i .0) ∙ omega arith) (i .1)
 
 pub setRows-other : (w v n : ℕ) (f : ℕ → ℕ → ℕ) (r : List ℕ) (u a : ℕ) → a < w → Without u v n → cell w (setRows w v n f r) u a ≡ cell w r u a
-setRows-other w v n f r u a h k = setRows-out w v n f r (u * w + a) (rw (cell-index w u a h .0) k)
+setRows-other w v n f r u a h k = setRows-out w v n f r (u * w + a) (rw (quotient-rest w u a h .0) k)
 
 -- a grid with several rows replaced
 pub setRows-grid : (w n v m : ℕ) (f g h : ℕ → ℕ → ℕ) → v + m ≤ n → ((k a : ℕ) → k < m → a < w → f k a ≡ h (v + k) a) → ((u a : ℕ) → u < n → Without u v m → a < w → g u a ≡ h u a) → setRows w v m f (grid w n g) ≡ grid w n h

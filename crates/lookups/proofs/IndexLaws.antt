@@ -9,6 +9,7 @@ use lib.ListN.{getD}
 use borrow.Author.Tests.{ltb-true, ltb-false}
 use Rattle.ternary.specs.Signal.{at}
 use Rattle.ternary.specs.TruthTable.{signalKinds, ternaryDigit, ternaryIndex}
+use Rattle.ternary.proofs.BitLaws.{quotient-rest}
 use Rattle.ternary.proofs.Tests.{by-test}
 use Rattle.ternary.proofs.SignalLaws.{at-table}
 use Rattle.ternary.proofs.TruthTableLaws.{ternary-digit-lt, ternary-index-lt}
@@ -22,7 +23,7 @@ use Rattle.net.specs.Ternary.{symbolSignal, signalVector}
 use Rattle.net.proofs.Keys.{key-at, key-storage}
 use Rattle.net.proofs.TernaryLaws.{length-signal-vector}
 use Rattle.lanes.specs.Grid.{cell}
-use Rattle.lanes.proofs.GridLaws.{cell-index, cell-inside, grid-cell}
+use Rattle.lanes.proofs.GridLaws.{cell-inside, grid-cell}
 use Rattle.excitations.specs.Fit.{Fit}
 use Rattle.states.specs.Weights.{variables, weightIn}
 use Rattle.states.proofs.Variables.{letter-signal, key-signal}
@@ -53,7 +54,7 @@ module _ (N : Net) (k : ℕ) (h : k < mostKeyNodes) where
   addition : (i x : ℕ) → i < variables → x < signalKinds → cell mostKeyNodes (additions N) (i * signalKinds + x) k ≡ weightIn signalKinds N (keyVertex N k) i * x
   unfolding additions
   addition i x l b =
-      let c = cell-index signalKinds i x b in
+      let c = quotient-rest signalKinds i x b in
       grid-cell mostKeyNodes (variables * signalKinds) (λ r k. r % signalKinds * weightIn signalKinds N (keyVertex N k) (r / signalKinds)) (i * signalKinds + x) k (cell-inside signalKinds variables i x b l) h
       ∙ ap₂ (λ d j. d * weightIn signalKinds N (keyVertex N k) j) (c .1) (c .0)
       ∙ mul-comm x _

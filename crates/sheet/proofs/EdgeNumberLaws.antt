@@ -1,6 +1,5 @@
 -- Counting edges by their numbers is counting them between two vertices.
 use Prim.Native.Nat.{ℕ, suc, _+_, _-_, _*_, _/_, _%_, _≤_, _<_}
-use native.Mathlib.Nat.{div-eq-of-lt, mod-eq-of-lt, mul-add-div-right, mul-add-mod-self-right}
 use native.Mathlib.Numerals.{add-one}
 use native.Mathlib.Omega.{arith}
 use mathlib.Core.Path.{_≡_, refl, sym, ap, subst, _∙_}
@@ -17,6 +16,7 @@ use Rattle.net.specs.Symbols.{symbolBound}
 use Rattle.net.specs.Graph.{edgeAt}
 use Rattle.net.specs.Walks.{Joins}
 use Rattle.ternary.specs.Lists.{leastBelow}
+use Rattle.ternary.proofs.BitLaws.{quotient-rest}
 use Rattle.ternary.proofs.Tests.{same-test, by-test, cond-by}
 use Rattle.ternary.proofs.ListLaws.{count-ext, getD-table, least-ext}
 use Rattle.sheet.specs.Pairs.{Between, isBetween, edgesBetween, beside, exceeds, lacksPartner}
@@ -25,18 +25,12 @@ use Rattle.sheet.proofs.PairLaws.{between-iff}
 
 -- ---- digits
 
--- a number tells its last digit and what stands before it
+-- equal numbers have equal last digits, and the same before them
 last-digit : (k u v x y : ℕ) → x < k → y < k → u * k + x ≡ v * k + y → (u ≡ v) × (x ≡ y)
-last-digit k u v x y h l e = (
-  sym (front u x h) ∙ ap (λ (n : ℕ). n / k) e ∙ front v y l,
-  sym (last u x h) ∙ ap (λ (n : ℕ). n % k) e ∙ last v y l,
-)
-  where
-    front : (w z : ℕ) → z < k → (w * k + z) / k ≡ w
-    front w z m = let q : z / k ≡ 0 = div-eq-of-lt m in mul-add-div-right (omega arith) w z ∙ omega (arith, q)
-
-    last : (w z : ℕ) → z < k → (w * k + z) % k ≡ z
-    last w z m = mul-add-mod-self-right w k z ∙ mod-eq-of-lt m
+last-digit k u v x y h l e =
+    let a = quotient-rest k u x h in
+    let b = quotient-rest k v y l in
+    (sym (a .0) ∙ ap (λ (n : ℕ). n / k) e ∙ b .0, sym (a .1) ∙ ap (λ (n : ℕ). n % k) e ∙ b .1)
 
 number-turned : (u v s x : ℕ) → numberOf u v s x ≡ numberOf v u s x
 unfolding numberOf
@@ -50,8 +44,8 @@ number-form : (u v s x : ℕ) → x < formBound → numberOf u v s x % formBound
 unfolding numberOf
 number-form u v s x h =
     cond-by (λ (n : ℕ). n % formBound ≡ x) (leb u v)
-    (λ _. mul-add-mod-self-right _ formBound x ∙ mod-eq-of-lt h)
-    (λ _. mul-add-mod-self-right _ formBound x ∙ mod-eq-of-lt h)
+    (λ _. quotient-rest formBound _ x h .1)
+    (λ _. quotient-rest formBound _ x h .1)
 
 other-form : (u v s x p : ℕ) → numberOf u v s x - x + p ≡ numberOf u v s p
 unfolding numberOf

@@ -121,7 +121,7 @@ module _ (N : Net) where
             (λ o. absurd (f n h (record { form = b .form; over = rw (beside-same b N E p, beside-same b N (suc n) x) (ltb-true _ _ o) })))
             (ltb-false _ _)
 
-    pub no-more-iff : ((i : ℕ) → i < E → ¬ Exceeds N i x p) ↔ NoMore N x p
+    no-more-iff : ((i : ℕ) → i < E → ¬ Exceeds N i x p) ↔ NoMore N x p
     no-more-iff = (λ f u v s. within f u v s E (omega arith), back)
       where
         back : NoMore N x p → (i : ℕ) → i < E → ¬ Exceeds N i x p
@@ -172,7 +172,7 @@ module _ (N : Net) where
     there-is m i h =
         let e = edgeAt N i in
         let enough : rank i < beside N e E p =
-        omega (arith, counts-itself x i (h .1), between-rise (e .end1) (e .end2) (e .symbol) x (suc i) E (h .0), m (e .end1) (e .end2) (e .symbol)) in
+        omega (arith, counts-itself x i (h .form), between-rise (e .end1) (e .end2) (e .symbol) x (suc i) E (h .below), m (e .end1) (e .end2) (e .symbol)) in
         let r = place-at (fits i) E (rank i) enough in
         subst (At (fits i) E (rank i)) (sym (r .1 .reads)) (r .1)
 
@@ -193,7 +193,7 @@ module _ (N : Net) where
           arith,
           first,
           second,
-          counts-itself x i (h .1),
+          counts-itself x i (h .form),
           between-rise (d .end1) (d .end2) (d .symbol) x (suc i) k (ltb-true i k t),
           sym (beside-same a N j p) ∙ beside-same b N j p,
           sym (beside-same a N k x) ∙ beside-same b N k x,
@@ -214,13 +214,18 @@ module _ (N : Net) where
 
     enough-partners : Partnered N x p → NoMore N x p
     unfolding edgesBetween
-    enough-partners r u v s =
-        count-apart E E (λ i. isBetween u v s x (edgeAt N i)) (λ j. isBetween u v s p (edgeAt N j)) (r .partner)
-        (λ i h t.
-        let b = between-iff u v s x (edgeAt N i) .0 t in
-        let j = r .partner i in
-        (r .in-use i (h, b .form), sym (between-same b p (edgeAt N j)) ∙ between-iff _ _ _ _ (edgeAt N j) .1 (r .parallel i (h, b .form))))
-        (λ i k h l t w. r .own i k (h, between-iff u v s x (edgeAt N i) .0 t .form) (l, between-iff u v s x (edgeAt N k) .0 w .form))
+    enough-partners r u v s = count-apart E E (λ i. isBetween u v s x (edgeAt N i)) (λ j. isBetween u v s p (edgeAt N j)) (r .partner) to apart
+      where
+        has : (i : ℕ) → i < E → isBetween u v s x (edgeAt N i) ≡ true → HasForm N x i
+        has i h t = record { below = h; form = between-iff u v s x (edgeAt N i) .0 t .form }
+
+        to : (i : ℕ) → i < E → isBetween u v s x (edgeAt N i) ≡ true → (r .partner i < E) × (isBetween u v s p (edgeAt N (r .partner i)) ≡ true)
+        to i h t =
+            let g = edgeAt N (r .partner i) in
+            (r .in-use i (has i h t), sym (between-same (between-iff u v s x (edgeAt N i) .0 t) p g) ∙ between-iff _ _ _ _ g .1 (r .parallel i (has i h t)))
+
+        apart : (i k : ℕ) → i < E → k < E → isBetween u v s x (edgeAt N i) ≡ true → isBetween u v s x (edgeAt N k) ≡ true → r .partner i ≡ r .partner k → i ≡ k
+        apart i k h l t w = r .own i k (has i h t) (has k l w)
 
   pub partnered-iff : Paired N ↔ (Partnered N 2 1 × Partnered N 3 0)
   partnered-iff = (

@@ -66,8 +66,9 @@ lacksPartner N i = exceeds N i 2 1 || exceeds N i 3 0
 -- ---- what the counts stand for: partners (`partnered-iff`)
 
 -- edge i is in use and has the form x
-abbrev pub HasForm : Net → (x i : ℕ) → Type 0
-HasForm N x i = (i < N .«edge_count») × ((edgeAt N i) .form ≡ x)
+pub record HasForm (N : Net) (x i : ℕ) : Type 0 where
+  pub below : i < N .«edge_count»
+  pub form : (edgeAt N i) .form ≡ x
 
 -- each edge of form x can be given a partner of form p, between its own ends and of its symbol, that no other of them has
 pub record Partnered (N : Net) (x p : ℕ) : Type 0 where

@@ -1,15 +1,23 @@
--- Laws of bits and of the numbers made of bits. Assumes nothing.
+-- Laws of digits, of bits and of the numbers made of bits. Assumes nothing.
 use Prim.Native.Nat.{ℕ, zero, suc, _+_, _*_, _/_, _%_, _^_, _≤_, _<_}
 use mathlib.Core.Path.{_≡_, refl, sym, ap, _∙_}
 use mathlib.Core.Bool.{Bool, true, false, false≢true, _||_}
 use mathlib.Core.Logic.{_↔_, _⊎_, inl, inr, ⊎-elim}
 use native.Mathlib.Omega.{arith}
-use native.Mathlib.Nat.{div-div-eq-div-mul, div-eq-of-lt, pow-succ', pow-zero, pow-le-pow-right, div-one}
+use native.Mathlib.Nat.{div-div-eq-div-mul, div-eq-of-lt, mod-eq-of-lt, mul-add-div-right, mul-add-mod-self-right, pow-succ', pow-zero, pow-le-pow-right, div-one}
 use native.Mathlib.Numerals.{add-one}
 use lib.Bits.{bitOr}
 use lib.Dec.{eqb}
 use Rattle.ternary.specs.Bits.{bit, number, has, digit, setOf}
 use Rattle.ternary.specs.Lists.{anyBelow}
+
+-- a number whose last digit is a, and v before it, tells both: so does the place of entry a in row v of rows of width w
+pub quotient-rest : (w v a : ℕ) → a < w → ((v * w + a) / w ≡ v) × ((v * w + a) % w ≡ a)
+quotient-rest w v a h =
+    let q : a / w ≡ 0 = div-eq-of-lt h in (
+      mul-add-div-right (omega arith) v a ∙ omega (arith, q),
+      mul-add-mod-self-right v w a ∙ mod-eq-of-lt h,
+    )
 
 -- ---- bits
 
