@@ -1,6 +1,7 @@
 //! The graph of a net as tables of bytes: an entry for each vertex number from 0; and the number of key nodes.
 //! Types, definitions and laws are those of the crate `net`.
 use net::Net;
+use net::Vertex;
 ghost use mathlib.Core.Path.{_≡_};
 ghost use mathlib.Core.Bool.{_||_};
 ghost use Prim.Native.Nat.{_≤_};
@@ -14,7 +15,7 @@ fn storage_flag(role: u8) -> u8
     ensures { λ r. ⌜ r ≡ digit (eqb role 1 || eqb role 2) ⌝ }
 {
     match role {
-        1..=2 => 1,
+        Vertex::STORAGE..=Vertex::OUTPUT => 1,
         _ => 0,
     }
 }

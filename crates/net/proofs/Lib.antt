@@ -15,6 +15,7 @@ pub mod Members
 pub mod Reach
 pub mod Connected
 pub mod Fights
+pub mod Copies
 pub mod Keys
 pub mod Components
 pub mod Local

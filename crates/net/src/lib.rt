@@ -5,10 +5,19 @@ use ternary::Signal;
 ghost use mathlib.Core.Path.{_≡_};
 ghost use Rattle.net.specs.Limits.{limits};
 
-// A vertex by its numbers on the sheet. role: 0 input, 1 storage, 2 storage and output. label: an input vertex's symbol.
+// A vertex by its numbers on the sheet. label: an input vertex's symbol.
 pub struct Vertex {
     pub role: u8,
     pub label: u16,
+}
+
+impl Vertex {
+    // The roles. An output is a storage vertex too.
+    pub const INPUT: u8 = 0;
+
+    pub const STORAGE: u8 = 1;
+
+    pub const OUTPUT: u8 = 2;
 }
 
 // An edge joins vertices end1 and end2. form: 0 to 3. symbol: a symbol's number.

@@ -7,56 +7,17 @@ ghost use mathlib.Core.Path.{_≡_};
 ghost use Prim.Native.Nat.{_+_, _*_, _≤_};
 ghost use lib.ListN.{length, drop};
 ghost use Rattle.sheet.specs.Limits.{mostColumns, ReadColumns, lineBytes};
-ghost use Rattle.sheet.specs.Rows.{answer, firstRow};
-ghost use Rattle.sheet.specs.Graph.{graphRows};
-ghost use Rattle.sheet.specs.Checked.{Checked, SoFar};
-ghost use Rattle.sheet.specs.Reading.{conclude, readLines, sizeOk, readIn, readSheet};
-ghost use Rattle.sheet.specs.Record.{startNet, refused};
+ghost use Rattle.sheet.specs.Checked.{SoFar};
+ghost use Rattle.sheet.specs.Reading.{readLines, readIn, readSheet};
+ghost use Rattle.sheet.specs.Record.{startNet};
 ghost use Rattle.sheet.specs.Rules.{headerOk};
-use net::Edge;
 use net::Net;
-use net::Vertex;
 use sheet::Answer;
 use sheet::Decoded;
 use sheet::Line;
 use sheet::LineRead;
 use sheet::Reading;
 use sheet::Sheet;
-
-// The record of a header before any vertex or edge is read: all places zero.
-fn start_net(vertices: u8, edges: u16, letters: u8) -> Net
-    ensures { λ r. ⌜ r ≡ startNet vertices edges letters ⌝ }
-{
-    let vertex = Vertex { role: 0, label: 0 };
-    let edge = Edge {
-        end1: 0,
-        end2: 0,
-        form: 0,
-        symbol: 0,
-    };
-    Net {
-        vertices: [vertex; Net::MOST_VERTICES],
-        edges: [edge; Net::MOST_EDGES],
-        vertex_count: vertices,
-        edge_count: edges,
-        letter_count: letters,
-    }
-}
-
-// Is the length of a sheet allowed?
-fn size_ok(size: usize, columns: usize) -> bool
-    requires { ⌜ columns ≤ mostColumns ⌝ }
-    ensures { λ r. ⌜ r ≡ sizeOk columns size ⌝ }
-{
-    let width = sheet::line_bytes(columns);
-    if size == 0 {
-        return false;
-    }
-    if size % width != 0 {
-        return false;
-    }
-    size <= width * Sheet::MOST_LINES
-}
 
 // A header is 1, vertices, edges, letters and the edition.
 fn header_ok(h: Line) -> bool
@@ -71,29 +32,6 @@ fn header_ok(h: Line) -> bool
     rules::counts_ok(h.second as usize, h.third as usize, h.fourth as usize)
 }
 
-// A refusal: its number and place, and the empty record.
-fn refusal(number: u8, place: u16) -> Reading
-    ensures { λ r. ⌜ r ≡ refused (answer number place) ⌝ }
-{
-    let empty = start_net(0, 0, 0);
-    Reading {
-        answer: Answer { number, place },
-        net: empty,
-    }
-}
-
-// What the rows over the graph make of the record.
-fn concluded(net: Net) -> Reading
-    requires { ⌜ Checked net ⌝ }
-    ensures { λ r. ⌜ r ≡ conclude net (firstRow (graphRows net)) ⌝ }
-{
-    let answer = graph_rows::graph_answer(net);
-    if answer.number != 0 {
-        return refusal(answer.number, answer.place);
-    }
-    Reading { answer, net }
-}
-
 // The lines below the header; reading stops at the first that is refused.
 fn read_lines(sheet: &[u8], columns: usize, start: Net, count: usize) -> Reading
     requires { ⌜ SoFar start 0 × (count ≡ start .«vertex_count» + start .«edge_count») × (lineBytes columns * (1 + count) ≤ length (now sheet)) × ReadColumns columns ⌝ }
@@ -106,17 +44,17 @@ fn read_lines(sheet: &[u8], columns: usize, start: Net, count: usize) -> Reading
     while j < count {
         let end = at + width;
         let LineRead::Five(line) = line_values::read_line(&sheet[at..end], columns) else {
-            return refusal(Answer::BAD_LINE, (j + 2) as u16);
+            return sheet_readings::refusal(Answer::BAD_LINE, (j + 2) as u16);
         };
         let decoded = body::decode_line(net, j, line);
         let Decoded::Allowed(entry) = decoded else {
-            return refusal(body::refusal_of(decoded), (j + 2) as u16);
+            return sheet_readings::refusal(body::refusal_of(decoded), (j + 2) as u16);
         };
         net = body::with_entry(net, j, entry);
         at = end;
         j += 1;
     }
-    concluded(net)
+    sheet_readings::concluded(net)
 }
 
 // The record of a sheet with so many columns a field, or the number and place of its first fault.
@@ -126,20 +64,20 @@ pub fn read_in(sheet: &[u8], columns: usize) -> Reading
 {
     let width = sheet::line_bytes(columns);
     let size = sheet.len();
-    if !size_ok(size, columns) {
-        return refusal(Answer::BAD_LENGTH, 0);
+    if !sheet_readings::whole_lines(size, columns, Sheet::MOST_LINES) {
+        return sheet_readings::refusal(Answer::BAD_LENGTH, 0);
     }
     let LineRead::Five(header) = line_values::read_line(&sheet[0..width], columns) else {
-        return refusal(Answer::BAD_LINE, 1);
+        return sheet_readings::refusal(Answer::BAD_LINE, 1);
     };
     if !header_ok(header) {
-        return refusal(Answer::BAD_HEADER, 1);
+        return sheet_readings::refusal(Answer::BAD_HEADER, 1);
     }
     let count = header.second as usize + header.third as usize;
     if size / width != 1 + count {
-        return refusal(Answer::BAD_LINE_COUNT, 0);
+        return sheet_readings::refusal(Answer::BAD_LINE_COUNT, 0);
     }
-    let start = start_net(
+    let start = sheet_readings::start_net(
         header.second as u8,
         header.third as u16,
         header.fourth as u8,

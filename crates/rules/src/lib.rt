@@ -14,13 +14,6 @@ use net::Symbol;
 use net::Vertex;
 use sheet::Form;
 
-// The roles of a vertex.
-const INPUT: u8 = 0;
-
-const STORAGE: u8 = 1;
-
-const OUTPUT: u8 = 2;
-
 // What a form is.
 fn form_of(form: u8) -> Form
     ensures { λ r. ⌜ r ≡ formOf form ⌝ }
@@ -71,7 +64,7 @@ fn is_storage(net: Net, v: u8) -> bool
     }
     let role = net.vertices[i].role;
     match role {
-        STORAGE..=OUTPUT => true,
+        Vertex::STORAGE..=Vertex::OUTPUT => true,
         _ => false,
     }
 }
@@ -106,8 +99,8 @@ pub fn vertex_ok(net: Net, x: Vertex) -> bool
 {
     let role = x.role;
     match role {
-        INPUT => known_label(net, symbols::decoded(x.label)),
-        STORAGE..=OUTPUT => x.label == 0,
+        Vertex::INPUT => known_label(net, symbols::decoded(x.label)),
+        Vertex::STORAGE..=Vertex::OUTPUT => x.label == 0,
         _ => false,
     }
 }

@@ -17,7 +17,7 @@ use Rattle.sheet.specs.Rows.{answer}
 use Rattle.sheet.specs.Record.{startNet, refused}
 use Rattle.sheet.specs.Rules.{headerOk}
 use Rattle.sheet.specs.Checked.{SoFar}
-use Rattle.sheet.specs.Reading.{readLines, sizeOk, readHeader, readIn}
+use Rattle.sheet.specs.Reading.{readLines, wholeLines, sizeOk, readHeader, readIn}
 use Rattle.sheet.proofs.WholeLines.{whole-first, lines-room}
 use Rattle.sheet.proofs.RuleLaws.{Counts, counts-facts}
 use Rattle.sheet.proofs.Progress.{none-yet}
@@ -32,15 +32,15 @@ module _ (w : ℕ) (b : List ℕ) where
   unfolding readIn
   bad-length e = rw e
 
-  module _ (size : sizeOk w (length b) ≡ true) where
-    -- there is a first line
-    pub first-line : (width : ℕ) → width ≡ lineBytes w → width ≤ length b
-    unfolding sizeOk
-    first-line width is =
-        let some-byte = leb-true 1 (length b) (search ands) in
-        let whole = eqb-true (length b % lineBytes w) 0 (search ands) in
-        rw is (whole-first (lineBytes w) (length b) some-byte whole)
+  -- bytes that are whole lines have a first one
+  pub first-line : (most : ℕ) → wholeLines w most (length b) ≡ true → (width : ℕ) → width ≡ lineBytes w → width ≤ length b
+  unfolding wholeLines
+  first-line most size width is =
+      let some-byte = leb-true 1 (length b) (search ands) in
+      let whole = eqb-true (length b % lineBytes w) 0 (search ands) in
+      rw is (whole-first (lineBytes w) (length b) some-byte whole)
 
+  module _ (size : sizeOk w (length b) ≡ true) where
     pub bad-first-line : lineAnswer (readLine w (take (lineBytes w) b)) ≡ Refused → refused (answer 12 1) ≡ readIn w b
     unfolding readIn readHeader
     bad-first-line e = rw (size, unread-of (readLine w (take (lineBytes w) b)) e)

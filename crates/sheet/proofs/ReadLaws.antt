@@ -19,7 +19,7 @@ use Rattle.sheet.specs.Limits.{recordColumns, lineBytes}
 use Rattle.sheet.specs.Line.{writeLine}
 use Rattle.sheet.specs.Record.{accepted}
 use Rattle.sheet.specs.Rules.{headerOk, vertexOk, edgeOk}
-use Rattle.sheet.specs.Reading.{vertexOf, edgeOf, vertexLineOk, edgeLineOk, sizeOk, readIn}
+use Rattle.sheet.specs.Reading.{vertexOf, edgeOf, vertexLineOk, edgeLineOk, wholeLines, readIn}
 use Rattle.sheet.specs.Writing.{headerLine, vertexLine, edgeLine, vertexLines, edgeLines, writeIn}
 use Rattle.sheet.specs.SheetRows.{lineAt, isMissing, numbersOf, header, vertexCount, edgeCount, vertexFrom, edgeFrom, netIn}
 use Rattle.sheet.specs.Valid.{allOf, isNoVertex, isNoEdge, valid}
@@ -123,7 +123,7 @@ module _ (w : ℕ) (b : List ℕ) (f : Fit w b) where
 
   -- no byte is left behind the last line
   all-read : drop (lineBytes w * (1 + vertexCount w b + edgeCount w b)) b ≡ []
-  unfolding sizeOk
+  unfolding wholeLines
   all-read =
       let ok = f .size in
       let whole : length b % lineBytes w ≡ 0 = eqb-true (length b % lineBytes w) 0 (search ands) in

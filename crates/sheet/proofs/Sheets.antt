@@ -13,7 +13,7 @@ use Rattle.sheet.specs.Record.{startNet, emptyNet}
 use Rattle.sheet.specs.Rules.{countsOk, headerOk, vertexOk, symbolOk, edgeOk}
 use Rattle.sheet.specs.Pairs.{isBetween, edgesBetween, exceeds, lacksPartner}
 use Rattle.sheet.specs.Graph.{partnerPlace, keyPlace, overSignals, signalPlace, graphRows}
-use Rattle.sheet.specs.Reading.{vertexLineOk, edgeLineOk, addLine, stepLine, conclude, readLines, sizeOk, readHeader, readIn}
+use Rattle.sheet.specs.Reading.{vertexLineOk, edgeLineOk, addLine, stepLine, conclude, readLines, wholeLines, readHeader, readIn}
 use Rattle.sheet.specs.Writing.{vertexLines, edgeLines, writeIn}
 use Rattle.sheet.specs.Valid.{allOf, isNoVertex, isNoEdge, passes, valid}
 use Rattle.sheet.specs.Job.{jobIn}
@@ -24,7 +24,7 @@ unfoldable pub open-all : Unit {0}
 unfolding
     model net signalCount same column writeField fieldValue readField writeLine fieldAt fiveFields readLine hasLine lineIn lineNumberIn
     firstRow startNet emptyNet countsOk headerOk vertexOk symbolOk edgeOk isBetween edgesBetween exceeds lacksPartner partnerPlace keyPlace overSignals
-    signalPlace graphRows vertexLineOk edgeLineOk addLine stepLine conclude readLines sizeOk readHeader readIn vertexLines edgeLines
+    signalPlace graphRows vertexLineOk edgeLineOk addLine stepLine conclude readLines wholeLines readHeader readIn vertexLines edgeLines
     writeIn allOf isNoVertex isNoEdge passes valid jobIn
 open-all = tt
 

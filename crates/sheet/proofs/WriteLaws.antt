@@ -22,7 +22,7 @@ use Rattle.sheet.specs.Rows.{firstRow}
 use Rattle.sheet.specs.Record.{startNet, accepted}
 use Rattle.sheet.specs.Rules.{headerOk, vertexOk, symbolOk, edgeOk}
 use Rattle.sheet.specs.Graph.{graphRows}
-use Rattle.sheet.specs.Reading.{withVertices, withEdges, vertexLineOk, edgeLineOk, addLine, stepLine, conclude, readLines, sizeOk, readHeader, readIn}
+use Rattle.sheet.specs.Reading.{withVertices, withEdges, vertexLineOk, edgeLineOk, addLine, stepLine, conclude, readLines, wholeLines, sizeOk, readHeader, readIn}
 use Rattle.sheet.specs.Reading.Step.{next}
 use Rattle.sheet.specs.Writing.{headerLine, vertexLine, edgeLine, vertexLines, edgeLines, writeIn}
 use Rattle.sheet.specs.Valid.{allOf, isNoVertex, isNoEdge, valid}
@@ -128,7 +128,7 @@ read-body w wide N f =
 -- ---- the header
 
 size-passed : (w n k : ℕ) → n ≡ lineBytes w * (1 + k) → 1 + k ≤ mostLines → sizeOk w n ≡ true
-unfolding sizeOk
+unfolding wholeLines
 size-passed w n k e h =
     let first : lineBytes w * 1 ≤ lineBytes w * (1 + k) = mul-le-mul-left (lineBytes w) (omega arith) in
     let most : lineBytes w * (1 + k) ≤ sheetBytes w = mul-le-mul-left (lineBytes w) h in

@@ -1,5 +1,5 @@
 -- Reading a sheet of w columns a field: the header, then a line for each vertex, then a line for each edge, then the rows over the graph.
-use Prim.Native.Nat.{ℕ, zero, suc, _+_, _-_, _/_, _%_}
+use Prim.Native.Nat.{ℕ, zero, suc, _+_, _-_, _*_, _/_, _%_}
 use mathlib.Core.Bool.{Bool, cond, _&&_}
 use mathlib.Core.List.{List}
 use mathlib.Core.Option.{Option, none, some}
@@ -11,7 +11,7 @@ use Rattle.net.specs.declared.Edge.{Edge}
 use Rattle.net.specs.declared.Net.{Net}
 use Rattle.sheet.specs.declared.Answer.{Answer}
 use Rattle.sheet.specs.declared.Reading.{Reading}
-use Rattle.sheet.specs.Limits.{Columns, fieldWidth, lineBytes, sheetBytes}
+use Rattle.sheet.specs.Limits.{Columns, fieldWidth, lineBytes, mostLines}
 use Rattle.sheet.specs.declared.Line.{Line}
 use Rattle.sheet.specs.Line.{readLine}
 use Rattle.sheet.specs.Rows.{answer, firstRow}
@@ -85,9 +85,12 @@ readLines w (suc left) rest j N =
       | stop n ↦ refused (answer n (j + 2))
     ]
 
--- not length 0, a multiple of a line, and not above the limit
-unfoldable pub sizeOk : Columns → ℕ → Bool
-sizeOk w n = leb 1 n && eqb (n % lineBytes w) 0 && leb n (sheetBytes w)
+-- n bytes are whole lines: not length 0, a multiple of a line, and no more than so many lines
+unfoldable pub wholeLines : Columns → ℕ → ℕ → Bool
+wholeLines w most n = leb 1 n && eqb (n % lineBytes w) 0 && leb n (lineBytes w * most)
+
+abbrev pub sizeOk : Columns → ℕ → Bool
+sizeOk w n = wholeLines w mostLines n
 
 -- from line 1
 unfoldable pub readHeader : Columns → Bytes → Option Line → Reading

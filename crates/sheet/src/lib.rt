@@ -1,6 +1,6 @@
 //! The sheet: its lines, what reading one answers, and the record that an accepted sheet gives.
 //! What a sheet means stands in specs/, the laws of it in proofs/. The functions over it are in the crates `fields`, `line_values`, `lines`, `rules`,
-//! `graph_rows`, `record` and `reader`.
+//! `graph_rows`, `record`, `sheet_readings` and `reader`.
 
 ghost use mathlib.Core.Path.{_≡_};
 ghost use Prim.Native.Nat.{_≤_};
@@ -59,6 +59,10 @@ impl Line {
     pub const EDGE: u32 = 3;
 
     pub const JOB: u32 = 4;
+    // Of a gate sheet: its header, and the line of a gate.
+    pub const GATES: u32 = 6;
+
+    pub const GATE: u32 = 7;
 }
 
 // What a line reads as.
@@ -122,6 +126,8 @@ impl Answer {
     pub const NO_STORAGE_VERTEX: u8 = 48;
     // Writing: the buffer is shorter than the sheet.
     pub const SHORT_FOR_SHEET: u8 = 51;
+    // A line of a gate sheet has a value that is not allowed.
+    pub const BAD_GATE_LINE: u8 = 52;
 }
 
 // The place of a row, if its condition holds.

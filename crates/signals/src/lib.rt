@@ -2,6 +2,7 @@
 //! edges touch. Types, definitions and laws are those of the crate `net`.
 use net::Net;
 use net::Symbol;
+use net::Vertex;
 ghost use mathlib.Core.Path.{_≡_};
 ghost use mathlib.Core.Bool.{true, cond, _&&_};
 ghost use Prim.Native.Nat.{_≤_};
@@ -13,7 +14,7 @@ ghost use Rattle.net.specs.Tables.{Prepared, inputLabels, markSymbol, markEnd, 
 fn input_label(role: u8, label: u16) -> u16
     ensures { λ r. ⌜ r ≡ cond (eqb role 0) label 0 ⌝ }
 {
-    if role == 0 { label } else { 0 }
+    if role == Vertex::INPUT { label } else { 0 }
 }
 
 // The label of each input vertex; elsewhere 0, which is a constant's symbol.

@@ -6,7 +6,7 @@ use denote.Ref.{now}
 use lib.ListN.{length, take}
 use borrow.Author.Tests.{not-true, not-false}
 use Rattle.sheet.specs.declared.LineRead.the-variants.{Five}
-use Rattle.sheet.specs.Limits.{lineBytes}
+use Rattle.sheet.specs.Limits.{lineBytes, mostLines}
 use Rattle.sheet.specs.Line.{readLine, lineAnswer}
 use Rattle.sheet.specs.Record.{startNet}
 use Rattle.sheet.specs.Rules.{headerOk}
@@ -39,7 +39,7 @@ width-is c = lined c .line-bytes .ensures
 
 -- the length is allowed
 size-at : (c : tie.Else1) → sizeOk (start c .args .columns) (length (now (start c .args .sheet))) ≡ true
-size-at c = sym (c .before .size-ok .ensures) ∙ not-false _ (c .if1 .left)
+size-at c = sym (c .before .whole-lines .ensures) ∙ not-false _ (c .if1 .left)
 
 -- the first line is five fields
 five-at : (c : tie.After-header) → let a = start (past-length c) .args in
@@ -58,14 +58,14 @@ counts-at c =
 line-bytes-requires : tie.Need-line-bytes-requires
 line-bytes-requires c κs = search needs
 
-size-ok-requires : tie.Need-size-ok-requires
-size-ok-requires c κs = search needs
+whole-lines-requires : tie.Need-whole-lines-requires
+whole-lines-requires c κs = search needs
 
 refusal-requires : tie.Need-refusal-requires
 refusal-requires c κs = search needs
 
 returns : tie.Need-returns
-returns c = c .refusal .ensures ∙ bad-length _ _ (sym (c .before .before .size-ok .ensures) ∙ not-true _ (c .before .if1 .taken))
+returns c = c .refusal .ensures ∙ bad-length _ _ (sym (c .before .before .whole-lines .ensures) ∙ not-true _ (c .before .if1 .taken))
 
 sub-read-line : tie.Need-sub-read-line
 sub-read-line c = search needs
@@ -74,7 +74,7 @@ part-read-line-start : tie.Need-part-read-line-start
 part-read-line-start c = search needs
 
 part-read-line-end : tie.Need-part-read-line-end
-part-read-line-end c = first-line (start c .args .columns) (now (start c .args .sheet)) (size-at c) _ (width-is c)
+part-read-line-end c = first-line (start c .args .columns) (now (start c .args .sheet)) mostLines (size-at c) _ (width-is c)
 
 read-line-requires : tie.Need-read-line-requires
 read-line-requires c κs = search needs
@@ -171,7 +171,7 @@ read-in-spec =
     tie.close
     (tie.spec
     line-bytes-requires
-    size-ok-requires
+    whole-lines-requires
     refusal-requires
     returns
     sub-read-line

@@ -3,8 +3,8 @@ use mathlib.Core.Path.{_∙_}
 use borrow.Author.Needs.{needs}
 use Rattle.sheet.specs.Reading.{conclude}
 use Rattle.sheet.proofs.ReaderSteps.{ends-refused, ends-accepted}
-use Rattle.reader.proofs.concluded.Statement.{statement}
-use Rattle.reader.proofs.concluded.Tie as tie
+use Rattle.sheet_readings.proofs.concluded.Statement.{statement}
+use Rattle.sheet_readings.proofs.concluded.Tie as tie
 
 graph-answer-requires : tie.Need-graph-answer-requires
 graph-answer-requires c κs = search needs

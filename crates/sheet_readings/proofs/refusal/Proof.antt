@@ -1,8 +1,8 @@
 -- The record is that of a header of zeros.
 use Rattle.sheet.specs.Record.{emptyNet}
 use borrow.Author.Needs.{needs}
-use Rattle.reader.proofs.refusal.Statement.{statement}
-use Rattle.reader.proofs.refusal.Tie as tie
+use Rattle.sheet_readings.proofs.refusal.Statement.{statement}
+use Rattle.sheet_readings.proofs.refusal.Tie as tie
 
 start-net-requires : tie.Need-start-net-requires
 start-net-requires c κs = search needs

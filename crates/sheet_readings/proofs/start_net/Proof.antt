@@ -1,8 +1,8 @@
 -- Both arrays are repeats of an unused place.
 use mathlib.Core.Path.{refl}
 use Rattle.sheet.specs.Record.{startNet}
-use Rattle.reader.proofs.start_net.Statement.{statement}
-use Rattle.reader.proofs.start_net.Tie as tie
+use Rattle.sheet_readings.proofs.start_net.Statement.{statement}
+use Rattle.sheet_readings.proofs.start_net.Tie as tie
 
 returns : tie.Need-returns
 unfolding startNet

@@ -1,0 +1,15 @@
+pub mod Vertices
+pub mod Patterns
+pub mod Located
+pub mod Placing
+pub mod Links
+pub mod Excited
+pub mod WholeNet
+pub mod Sound
+pub mod Signals
+pub mod Validity
+pub mod GateRowLaws
+pub mod BuildLaws
+pub mod LineSteps
+pub mod LoopSteps
+pub mod FirstLineSteps

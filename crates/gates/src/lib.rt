@@ -1,0 +1,44 @@
+//! Gate sheets: a net drawn as inverters, NANDs and NORs. What a gate sheet means stands in specs/, the laws of it in proofs/. The functions over it are in the
+//! crates `gates_reader` and `gates_text`.
+
+use sheet::Sheet;
+
+// A gate by the numbers of its symbols.
+pub enum Gate {
+    Inverter(u16),
+    Nand(u16, u16),
+    Nor(u16, u16),
+}
+
+impl Gate {
+    // The types of a gate on a sheet.
+    pub const INVERTER: u32 = 1;
+
+    pub const NAND: u32 = 2;
+
+    pub const NOR: u32 = 3;
+}
+
+// A header, and a line for each gate.
+pub struct GateSheet;
+
+impl GateSheet {
+    // The columns of a field.
+    pub const COLUMNS: usize = Sheet::FIELD_WIDTH;
+
+    pub const LINE_WIDTH: usize = GateSheet::COLUMNS * Sheet::FIELDS + 1;
+
+    pub const MOST_GATES: usize = 24;
+
+    pub const MOST_LINES: usize = 1 + GateSheet::MOST_GATES;
+
+    pub const MOST_BYTES: usize = GateSheet::LINE_WIDTH * GateSheet::MOST_LINES;
+    // The last number of a header.
+    pub const EDITION: u32 = 1;
+    // The vertices of its net that carry 0 and 1, and the first output, which follows them.
+    pub const LOW: u8 = 1;
+
+    pub const HIGH: u8 = 2;
+
+    pub const FIRST_OUTPUT: u8 = 3;
+}
