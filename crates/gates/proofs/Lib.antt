@@ -13,3 +13,4 @@ pub mod BuildLaws
 pub mod LineSteps
 pub mod LoopSteps
 pub mod FirstLineSteps
+pub mod Examples
