@@ -15,3 +15,4 @@ pub mod TextKept
 pub mod Library
 pub mod Behaviour
 pub mod Writer
+pub mod Gates

@@ -10,7 +10,7 @@ use Rattle.sheet.specs.declared.Answer.{Answer}
 use Rattle.sheet.specs.Rows.{answer, Row, firstRow, byRows, answered}
 use Rattle.sheet.specs.SheetRows.{netOf, sheetRows}
 use Rattle.sheet.proofs.RowLaws.{by-rows-fit, by-rows-first, by-rows-answer, by-rows-map, by-rows-append, positive, positive-append, answered-zero, answered-some}
-use Rattle.sheet.proofs.SheetRowLaws.{sheet-positive, read-then}
+use Rattle.sheet.proofs.SheetRowLaws.{sheet-positive, sheet-then}
 use Rattle.soundness.specs.Verdict.{verdictRows, verdictOf}
 use Rattle.settlements.specs.Batch.{jobCount, pieces, runJobs, Batch, batched, batchRows, batchOf}
 use Rattle.output.specs.declared.Judged.{Judged}
@@ -33,7 +33,7 @@ module _ (sheet : List ℕ) where
 
   judged-by-rows : judgedOf sheet ≡ byRows (sheetRows sheet) (judged (verdictOf N) (keyCount N)) (λ a. judged a 0)
   unfolding judgedOf
-  judged-by-rows = read-then fieldWidth sheet (λ M. judged (verdictOf M) (keyCount M)) (λ a. judged a 0)
+  judged-by-rows = sheet-then fieldWidth sheet (λ M. judged (verdictOf M) (keyCount M)) (λ a. judged a 0)
 
   judged-answer : judgedOf sheet .answer ≡ answered (firstRow (sheetRows sheet ++ verdictRows N))
   unfolding verdictOf
@@ -67,7 +67,7 @@ module _ (sheet : List ℕ) where
     batch-by-rows : sheetBatchOf sheet jobs results answers
         ≡ byRows (sheetRows sheet) (sheetBatch (batchOf N jobs results answers) (keyCount N)) (λ a. sheetBatch (refuse a) 0)
     unfolding sheetBatchOf
-    batch-by-rows = read-then fieldWidth sheet (λ M. sheetBatch (batchOf M jobs results answers) (keyCount M)) (λ a. sheetBatch (refuse a) 0)
+    batch-by-rows = sheet-then fieldWidth sheet (λ M. sheetBatch (batchOf M jobs results answers) (keyCount M)) (λ a. sheetBatch (refuse a) 0)
 
     batch-by-all : sheetBatchOf sheet jobs results answers .batch ≡ byRows (sheetRows sheet ++ rows) ran refuse
     unfolding batchOf

@@ -20,7 +20,7 @@ use Rattle.sheet.specs.Reading.{readSheet}
 use Rattle.sheet.specs.Writing.{writeSheet}
 use Rattle.sheet.specs.Valid.{valid}
 use Rattle.sheet.proofs.RowLaws.{when-none, by-rows-fit, by-rows-first}
-use Rattle.sheet.proofs.SheetRowLaws.{sheet-accepted, read-then}
+use Rattle.sheet.proofs.SheetRowLaws.{sheet-accepted, sheet-then}
 use Rattle.sheet.proofs.ReadLaws.{read-valid}
 use Rattle.sheet.proofs.WriteLaws.{read-write-sheet}
 use Rattle.settlements.specs.Settle.{written}
@@ -32,7 +32,7 @@ use Rattle.writer.specs.Write.{Writing, writingRows, writingBy, writingOf, ownW
 use Rattle.writer.proofs.SameGraph.{same-key-count}
 use Rattle.writer.proofs.AgreedLaws.{canonical-same, canonical-ordered, canonical-valid, canonical-only, read-canonical, sheets-equal, written-again}
 use Rattle.writer.proofs.WriteLaws.{writing-zero, writing-number, writing-refused, writing-fit, written-record}
-use Rattle.writer_text.specs.Text.{textOf}
+use Rattle.writer_text.specs.Text.{printed, textOf}
 use Rattle.demands.specs.Writer.{WritingAnswers, bytesOf, WritingKept, NetTextAnswers}
 use Rattle.demands.proofs.Behaviour.{same-behaviour, same-net-text}
 
@@ -109,9 +109,9 @@ own-writing-kept N buffer e ok =
 -- ---- the program's text
 
 pub demand1-net-text : (sheet : Bytes) → NetTextAnswers sheet (textOf sheet)
-unfolding textOf
+unfolding textOf printed
 demand1-net-text sheet =
-    let by = read-then fieldWidth sheet canonicalSheet (λ a. firstLine a 0) in
+    let by = sheet-then fieldWidth sheet canonicalSheet (λ a. firstLine a 0) in
     record { refused = λ n p f. by ∙ by-rows-first (sheetRows sheet) _ _ n p f; written = λ f. by ∙ by-rows-fit (sheetRows sheet) _ _ f }
 
 -- two accepted sheets have the same text exactly if their records differ at most in the order of edges and of their ends

@@ -6,3 +6,4 @@ pub mod Library
 pub mod Instance
 pub mod Text
 pub mod Writer
+pub mod Gates

@@ -16,25 +16,30 @@ use Rattle.ternary.proofs.Tests.{ands}
 use Rattle.net.specs.declared.Net.{Net}
 use Rattle.net.specs.Limits.{mostLetters}
 use Rattle.net.specs.Symbols.{within, decode}
+use Rattle.net.specs.Graph.{isOutput, isKey}
 use Rattle.net.specs.Excitation.{excitation}
 use Rattle.net.specs.WellFormed.{WellFormed}
 use Rattle.net.proofs.Values.{within-low, within-high}
+use Rattle.sheet.specs.declared.Answer.{Answer}
 use Rattle.sheet.specs.declared.Line.{Line}
 use Rattle.sheet.specs.declared.Reading.{Reading}
-use Rattle.sheet.specs.Rows.{answer, Row, firstRow, answered, First, NoRow}
+use Rattle.sheet.specs.Rows.{answer, Row, byRows, First, NoRow}
 use Rattle.sheet.specs.Rows.NoRow.{end, next}
-use Rattle.sheet.specs.Record.{refused, accepted}
+use Rattle.sheet.specs.Record.{refused, accepted, readBy}
 use Rattle.sheet.specs.Graph.{keyPlace}
 use Rattle.sheet.specs.SheetRows.{inTurn}
 use Rattle.sheet.specs.Valid.{valid}
 use Rattle.sheet.proofs.FitSheets.{Passing}
-use Rattle.sheet.proofs.RowLaws.{by-rows-fit, by-rows-first, by-rows-answer, positive, positive-append, answered-zero, answered-some, none-append, not-held}
+use Rattle.sheet.proofs.RowLaws.{positive, positive-append, none-append, not-held}
+use Rattle.sheet.proofs.ReadingLaws.{read-zero, read-number, read-refused, read-accepted, read-then}
 use Rattle.sheet.proofs.TurnLaws.{turn-positive, each-turn}
 use Rattle.gates.specs.Limits.{mostGates, gateColumns}
 use Rattle.gates.specs.Gates.{gateValue, outputAt}
 use Rattle.gates.specs.GateRows.{gateSymbol, gateHeaderOk, gateOf, lineGate, gateLineOk, gateCount, letterCount, gateLineAt, gateFrom, netOfGates, firstLineOk, gateLineRows, gateRows, readGates}
 use Rattle.gates.proofs.Excited.{output-excitation}
-use Rattle.gates.proofs.Sound.{Allowed, gates-well-formed}
+use Rattle.gates.proofs.Vertices.{role-output}
+use Rattle.gates.proofs.WholeNet.{output-gate}
+use Rattle.gates.proofs.Sound.{Allowed, key-gate, gates-well-formed}
 use Rattle.gates.proofs.Validity.{gates-valid}
 
 -- ---- an allowed line gives a gate whose symbols are allowed
@@ -59,24 +64,27 @@ module _ (b : Bytes) where
   unfolding gateRows positive gateLineRows
   gate-positive = positive-append (inTurn (gateCount b) 0 (gateLineRows b)) _ (turn-positive (gateCount b) 0 (gateLineRows b) (λ _. refl)) refl
 
-  answers : (readGates b) .answer ≡ answered (firstRow (gateRows b))
+  by-rows : readGates b ≡ readBy (gateRows b) (netOfGates b)
   unfolding readGates
-  answers = by-rows-answer (gateRows b) (accepted (netOfGates b)) refused (λ r. r .answer) refl (λ a. refl)
+  by-rows = refl
 
   -- 0 exactly if no row holds, and n exactly if row n is the first that does
   pub gate-zero : ((readGates b) .answer .number ≡ 0) ↔ NoRow (gateRows b)
-  gate-zero = rw answers (answered-zero (gateRows b) gate-positive)
+  gate-zero = read-zero (gateRows b) gate-positive (netOfGates b) by-rows
 
   pub gate-number : (n p : ℕ) → 1 ≤ n → ((readGates b) .answer ≡ answer n p) ↔ First (gateRows b) n p
-  gate-number n p l = rw answers (answered-some (gateRows b) n p l)
+  gate-number = read-number (gateRows b) gate-positive (netOfGates b) by-rows
 
   pub gate-refused : (n p : ℕ) → First (gateRows b) n p → readGates b ≡ refused (answer n p)
-  unfolding readGates
-  gate-refused n p f = by-rows-first (gateRows b) _ _ n p f
+  gate-refused = read-refused (gateRows b) gate-positive (netOfGates b) by-rows
 
   pub gate-accepted : NoRow (gateRows b) → readGates b ≡ accepted (netOfGates b)
-  unfolding readGates
-  gate-accepted f = by-rows-fit (gateRows b) _ _ f
+  gate-accepted = read-accepted (gateRows b) gate-positive (netOfGates b) by-rows
+
+  -- what a call gives that reads a gate sheet first
+  pub gate-then : {A : Type 0} (good : Net → A) (bad : Answer → A)
+      → cond (eqb ((readGates b) .answer .number) 0) (good ((readGates b) .net)) (bad ((readGates b) .answer)) ≡ byRows (gateRows b) (good (netOfGates b)) bad
+  gate-then = read-then (gateRows b) gate-positive (netOfGates b) by-rows
 
   -- ---- line 1
 
@@ -119,6 +127,16 @@ module _ (b : Bytes) where
   abbrev pub ByFormula : Net → Type 0
   ByFormula N = (a : InputState) (q : KeyState) (g : ℕ) → g < gateCount b → excitation N a q (outputAt g) ≡ gateValue N a q (gateFrom b g)
 
+  -- y is the output of a gate
+  abbrev pub GateOutput : ℕ → Type 0
+  GateOutput y = (g : ℕ) × (g < gateCount b) × (outputAt g ≡ y)
+
+  abbrev Outputs : Net → Type 0
+  Outputs N = (y : ℕ) → (isOutput N y ≡ true) ↔ GateOutput y
+
+  abbrev Keys : Net → Type 0
+  Keys N = (y : ℕ) → isKey N y ≡ true → GateOutput y
+
   module _ (f : FitGates) where
     allowed : (g : ℕ) → g < gateCount b → Allowed (gateCount b) (letterCount b) (gateFrom b g)
     allowed g h = line-allowed (gateCount b) (letterCount b) g (gateLineAt b g) (f .lines g h .allowed)
@@ -135,6 +153,17 @@ module _ (b : Bytes) where
     unfolding netOfGates
     fit-formula a q g h = output-excitation (gateCount b) (gateFrom b) (letterCount b) (few-gates (f .first)) g h a q
 
+    fit-outputs : Outputs (netOfGates b)
+    unfolding netOfGates
+    fit-outputs y = (
+      output-gate (gateCount b) (gateFrom b) (letterCount b) (few-gates (f .first)) y,
+      λ (g, h, e). rw (sym e) (role-output (gateCount b) (gateFrom b) (letterCount b) (few-gates (f .first)) (outputAt g) 2 (omega arith) (omega arith)),
+    )
+
+    fit-keys : Keys (netOfGates b)
+    unfolding netOfGates
+    fit-keys y k = key-gate (gateCount b) (gateFrom b) (letterCount b) (few-gates (f .first)) allowed y k
+
   module _ (N : Net) (e : readGates b ≡ accepted N) where
     none-holds : NoRow (gateRows b)
     none-holds = gate-zero .0 (ap (λ (r : Reading). r .answer .number) e)
@@ -150,3 +179,14 @@ module _ (b : Bytes) where
 
     pub accepted-formula : ByFormula N
     accepted-formula = subst ByFormula is-record (fit-formula (fit-gates none-holds))
+
+    -- the outputs of the net are those of the gates, and key nodes are among them
+    pub accepted-outputs : (y : ℕ) → (isOutput N y ≡ true) ↔ GateOutput y
+    accepted-outputs = subst Outputs is-record (fit-outputs (fit-gates none-holds))
+
+    pub accepted-keys : (y : ℕ) → isKey N y ≡ true → GateOutput y
+    accepted-keys = subst Keys is-record (fit-keys (fit-gates none-holds))
+
+  -- where the answer is 0 there is a record
+  pub gives-record : (readGates b) .answer .number ≡ 0 → valid ((readGates b) .net) ≡ true
+  gives-record z = let none = gate-zero .0 z in rw (gate-accepted none) (fit-valid (fit-gates none))

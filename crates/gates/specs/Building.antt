@@ -11,8 +11,8 @@ use Rattle.net.specs.Limits.{mostVertices, mostEdges}
 use Rattle.net.specs.Graph.{noVertex, noEdge}
 use Rattle.sheet.specs.declared.Reading.{Reading}
 use Rattle.sheet.specs.Graph.{keyPlace}
-use Rattle.sheet.specs.Record.{refused, accepted}
-use Rattle.sheet.specs.Rows.{row, byRows}
+use Rattle.sheet.specs.Record.{readBy}
+use Rattle.sheet.specs.Rows.{row}
 use Rattle.sheet.specs.SheetRows.{placed, inTurn}
 use Rattle.gates.specs.declared.Gate.{Gate}
 use Rattle.gates.specs.Gates.{high, netWith, gateEdges, hasInner, inner, vertexFrom}
@@ -38,4 +38,4 @@ outputsOf G L k = netWith (placed mostVertices (high + k) (vertexFrom G) noVerte
 
 -- what is left to read: m gate lines from gate g, then the key nodes
 unfoldable pub gateRest : Bytes → (m g : ℕ) → Reading
-gateRest b m g = byRows (inTurn m g (gateLineRows b) ++ row 22 (keyPlace (netOfGates b)) ∷ []) (accepted (netOfGates b)) refused
+gateRest b m g = readBy (inTurn m g (gateLineRows b) ++ row 22 (keyPlace (netOfGates b)) ∷ []) (netOfGates b)

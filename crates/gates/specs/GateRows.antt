@@ -13,8 +13,8 @@ use Rattle.net.specs.Limits.{mostLetters, vertexBase}
 use Rattle.net.specs.Symbols.{within, decode}
 use Rattle.sheet.specs.declared.Line.{Line}
 use Rattle.sheet.specs.declared.Reading.{Reading}
-use Rattle.sheet.specs.Rows.{Row, row, when, whenAt, byRows}
-use Rattle.sheet.specs.Record.{refused, accepted}
+use Rattle.sheet.specs.Rows.{Row, row, when, whenAt}
+use Rattle.sheet.specs.Record.{readBy}
 use Rattle.sheet.specs.Graph.{keyPlace}
 use Rattle.sheet.specs.Reading.{wholeLines}
 use Rattle.sheet.specs.SheetRows.{lineAt, numbersOf, inTurn, header, fieldsRow}
@@ -105,4 +105,4 @@ module _ (b : Bytes) where
       ∷ (inTurn gateCount 0 gateLineRows ++ row 22 (keyPlace netOfGates) ∷ [])
 
   unfoldable pub readGates : Reading
-  readGates = byRows gateRows (accepted netOfGates) refused
+  readGates = readBy gateRows netOfGates

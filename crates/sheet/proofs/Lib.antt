@@ -7,6 +7,7 @@ pub mod WholeLines
 pub mod LineLaws
 pub mod LineSteps
 pub mod RowLaws
+pub mod ReadingLaws
 pub mod SearchLaws
 pub mod RuleLaws
 pub mod RuleSteps

@@ -21,21 +21,18 @@ use Rattle.sheet.specs.declared.Line.{Line}
 use Rattle.sheet.specs.Limits.{lineBytes}
 use Rattle.sheet.specs.Line.{readLine}
 use Rattle.sheet.specs.Rows.{answer, Row, row, when, whenAt, firstRow, byRows, answered, First, NoRow}
-use Rattle.sheet.specs.Record.{startNet, refused, accepted}
+use Rattle.sheet.specs.Record.{startNet, refused, accepted, readBy}
 use Rattle.sheet.specs.Rules.{headerOk, vertexOk, symbolOk, edgeOk}
 use Rattle.sheet.specs.Graph.{graphRows}
 use Rattle.sheet.specs.Reading.{vertexOf, edgeOf, withVertices, withEdges, vertexLineOk, edgeLineOk, addLine, stepLine, conclude, readLines, sizeOk, readHeader, readIn}
 use Rattle.sheet.specs.Reading.Step.{next, stop}
 use Rattle.sheet.specs.SheetRows.{lineAt, isMissing, numbersOf, placed, inTurn, header, vertexCount, edgeCount, vertexFrom, edgeFrom, netIn, vertexRows, edgeRows, rowsIn}
-use Rattle.sheet.proofs.RowLaws.{RowsAnswer, nothing, found, rows-answer, positive-first, by-rows-fit, by-rows-first, by-rows-answer, by-rows-tested, positive, positive-append, answered-zero, answered-some}
+use Rattle.sheet.proofs.RowLaws.{by-rows-tested, positive, positive-append}
+use Rattle.sheet.proofs.ReadingLaws.{read-zero, read-number, read-refused, read-accepted, read-then}
 use Rattle.sheet.proofs.RuleLaws.{Counts, header-counts}
 use Rattle.sheet.proofs.TurnLaws.{turn-positive}
 use Rattle.sheet.proofs.LoopLaws.{afterStep, read-step}
 use Rattle.sheet.proofs.PlacedLaws.{placed-none, placed-more}
-
--- what a reading gives by its rows: the record N where none holds
-abbrev readBy : List Row → Net → Reading
-readBy rows N = byRows rows (accepted N) refused
 
 -- ---- one line: its fields, then its values
 
@@ -173,29 +170,20 @@ module _ (w : ℕ) (b : List ℕ) where
       positive-append (inTurn (vertexCount w b) 0 (vertexRows w b)) _ (turn-positive (vertexCount w b) 0 (vertexRows w b) (λ _. refl))
       (positive-append (inTurn (edgeCount w b) 0 (edgeRows w b)) (graphRows (netIn w b)) (turn-positive (edgeCount w b) 0 (edgeRows w b) (λ _. refl)) refl)
 
-  answers : (readIn w b) .answer ≡ answered (firstRow (rowsIn w b))
-  answers = ap (λ (r : Reading). r .answer) read-by-rows ∙ by-rows-answer (rowsIn w b) (accepted (netIn w b)) refused (λ r. r .answer) refl (λ a. refl)
-
   pub sheet-zero : ((readIn w b) .answer .number ≡ 0) ↔ NoRow (rowsIn w b)
-  sheet-zero = rw answers (answered-zero (rowsIn w b) sheet-positive)
+  sheet-zero = read-zero (rowsIn w b) sheet-positive (netIn w b) read-by-rows
 
   pub sheet-number : (n p : ℕ) → 1 ≤ n → ((readIn w b) .answer ≡ answer n p) ↔ First (rowsIn w b) n p
-  sheet-number n p l = rw answers (answered-some (rowsIn w b) n p l)
+  sheet-number = read-number (rowsIn w b) sheet-positive (netIn w b) read-by-rows
 
   -- a refusal has the empty record
   pub sheet-refused : (n p : ℕ) → First (rowsIn w b) n p → readIn w b ≡ refused (answer n p)
-  sheet-refused n p f = read-by-rows ∙ by-rows-first (rowsIn w b) _ _ n p f
+  sheet-refused = read-refused (rowsIn w b) sheet-positive (netIn w b) read-by-rows
 
   pub sheet-accepted : NoRow (rowsIn w b) → readIn w b ≡ accepted (netIn w b)
-  sheet-accepted f = read-by-rows ∙ by-rows-fit (rowsIn w b) _ _ f
+  sheet-accepted = read-accepted (rowsIn w b) sheet-positive (netIn w b) read-by-rows
 
   -- what a call that reads a sheet first gives: by the sheet's rows, and where none holds by the net
-  pub read-then : {A : Type 0} (good : Net → A) (bad : Answer → A)
+  pub sheet-then : {A : Type 0} (good : Net → A) (bad : Answer → A)
       → cond (eqb ((readIn w b) .answer .number) 0) (good ((readIn w b) .net)) (bad ((readIn w b) .answer)) ≡ byRows (rowsIn w b) (good (netIn w b)) bad
-  read-then good bad = go (rows-answer (rowsIn w b))
-    where
-      go : {o : Option Answer} → RowsAnswer (rowsIn w b) o
-          → cond (eqb ((readIn w b) .answer .number) 0) (good ((readIn w b) .net)) (bad ((readIn w b) .answer)) ≡ byRows (rowsIn w b) (good (netIn w b)) bad
-      go (nothing f) = rw (sheet-accepted f, by-rows-fit (rowsIn w b) (good (netIn w b)) bad f)
-      go (found {n = n} {p = p} f) =
-          rw (sheet-refused n p f, ne-eqb n 0 (omega (arith, positive-first sheet-positive f)), by-rows-first (rowsIn w b) (good (netIn w b)) bad n p f)
+  sheet-then = read-then (rowsIn w b) sheet-positive (netIn w b) read-by-rows

@@ -59,17 +59,16 @@ valid-sized N v =
     let f = valid-iff N .0 v in
     record { vertices = counts-of N f .vertices; edges = counts-of N f .edges; vertex-places = f .vertex-places; edge-places = f .edge-places }
 
--- the sheet in the agreed order is as long as the record's own, and fits where any sheet does
-module _ (w : Columns) (N : Net) (v : valid N ≡ true) where
-  pub canonical-length : length (canonicalIn w N) ≡ lineBytes w * (1 + (N .«vertex_count» + N .«edge_count»))
-  unfolding canonicalIn canonical
-  canonical-length = sheet-length w (canonical N) (valid-sized (canonical N) (canonical-valid N v))
+-- every sheet fits where the longest does: the record's own, and the one in the agreed order
+pub own-fits : (w : Columns) (N : Net) → valid N ≡ true → length (writeIn w N) ≤ sheetBytes w
+own-fits w N v =
+    let s = valid-sized N v in
+    let lines : 1 + (N .«vertex_count» + N .«edge_count») ≤ mostLines = omega (arith, s .vertices, s .edges) in
+    rw (sheet-length w N s) (mul-le-mul-left {m = 1 + (N .«vertex_count» + N .«edge_count»)} {n = mostLines} (lineBytes w) lines)
 
-  pub canonical-fits : length (canonicalIn w N) ≤ sheetBytes w
-  canonical-fits =
-      let s = valid-sized N v in
-      let lines : 1 + (N .«vertex_count» + N .«edge_count») ≤ mostLines = omega (arith, s .vertices, s .edges) in
-      rw canonical-length (mul-le-mul-left {m = 1 + (N .«vertex_count» + N .«edge_count»)} {n = mostLines} (lineBytes w) lines)
+pub canonical-fits : (w : Columns) (N : Net) → valid N ≡ true → length (canonicalIn w N) ≤ sheetBytes w
+unfolding canonicalIn
+canonical-fits w N v = own-fits w (canonical N) (canonical-valid N v)
 
 -- ---- a sheet of so many bytes, where it has room and where it has not
 
