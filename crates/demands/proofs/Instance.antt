@@ -20,14 +20,20 @@ use Rattle.settlements.specs.Batch.{batchOf}
 use Rattle.output.specs.Text.{vectorText, jobText, jobTexts}
 use Rattle.output.specs.Printed.{printedLine, printedAnswer}
 use Rattle.output.specs.Output.{firstLine, judgedOf, openingText, batchFor, netText, jobsText, outputOf}
+use Rattle.gates.specs.GateRows.{readGates}
+use Rattle.writer_text.specs.Text.{printed as printed-reading}
+use Rattle.gates_text.specs.Text.{gateTextOf}
 use Rattle.bench_examples.specs.Nets.{worked, threeNands}
 use Rattle.demands.specs.Demand3.{runOf}
 use Rattle.demands.specs.Kept.{Kept, JobLineKept}
-use Rattle.demands.specs.Instance.{lent, nands, workedNet, jobs, batch, printed}
+use Rattle.demands.specs.Gates.{GatesKept}
+use Rattle.demands.specs.Instance.{lent, nands, nandGates, workedNet, jobs, batch, printed}
 use Rattle.demands.specs.Text.{TextKept}
+use Rattle.gates.proofs.Examples.{open-gates}
 use Rattle.bench_examples.proofs.Opened.{opened}
 use Rattle.demands.proofs.Kept.{settle-kept-on, job-kept-on, settles-at}
 use Rattle.demands.proofs.TextKept.{text-kept}
+use Rattle.demands.proofs.Gates.{gates-kept}
 
 -- ---- three NANDs, from 11 to 00, from 010; one buffer is longer than the net needs, the other just long enough
 
@@ -52,6 +58,19 @@ nands-settle steps enough k h = settles-at nands-kept k (rw three-keys h) (binar
     binary (suc zero) h = lit< tt
     binary (suc (suc zero)) h = lit< tt
     binary (suc (suc (suc k))) h = absurd (omega arith)
+
+-- ---- the same NANDs as gates: they give the same record, and the program prints its sheet, which settles as above
+
+gates-read : readGates nandGates ≡ accepted nands
+unfolding opened open-gates nands nandGates
+gates-read = refl
+
+pub nand-gates-kept : GatesKept nandGates nands
+nand-gates-kept = gates-kept nandGates nands gates-read
+
+pub nand-gates-printed : gateTextOf nandGates ≡ threeNands
+unfolding opened open-gates nandGates gateTextOf printed-reading
+nand-gates-printed = refl
 
 -- ---- document 01's worked net
 

@@ -18,6 +18,10 @@ lent n = replicate n 9
 unfoldable pub nands : Net
 nands = readSheet threeNands .net
 
+-- the same NANDs as gates
+unfoldable pub nandGates : List ℕ
+nandGates = text ("   6   3   2   0   1\n" ∷ "   7   2 103  11 104\n" ∷ "   7   2 104 103 105\n" ∷ "   7   2 105 104  12\n" ∷ [])
+
 unfoldable pub workedNet : Net
 workedNet = readSheet worked .net
 

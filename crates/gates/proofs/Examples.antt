@@ -16,7 +16,7 @@ use Rattle.gates.specs.Gates.{gateEdges, innersBefore, edgesBefore, netO
 use Rattle.gates.specs.GateRows.{gateHeaderOk, gateOf, gateLineOk, netOfGates, firstLineOk, gateLineRows, gateRows, readGates}
 
 -- opens the definitions of gate sheets, and those of sheets
-unfoldable open-gates : Unit {0}
+unfoldable pub open-gates : Unit {0}
 unfolding
     open-all readGates byRows gateRows firstLineOk gateHeaderOk gateLineRows gateLineOk lineAt inTurn netOfGates netOfFirst placed edgesBefore gateEdges
     innersBefore gateOf
