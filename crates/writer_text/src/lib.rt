@@ -42,17 +42,15 @@ pub fn text<'a, 'b>(sheet: &'a [u8], out: &'b mut [u8]) -> Written
 
 // The text for a reading, in the record's own order, to the front of a buffer with room for any sheet.
 pub fn own_text(reading: Reading, out: &mut [u8]) -> Written
-    requires { ⌜ GivesRecord reading ⌝ }
+    requires { ⌜ GivesRecord reading × (mostBytes ≤ length (now out)) ⌝ }
     ensures { λ w. ⌜ report w (now (out .exit)) ≡ ownReportOf reading (now (out .entry)) ⌝ }
 {
-    if out.len() < Sheet::MOST_BYTES {
-        return Written::Short;
-    }
     let answer = reading.answer;
-    if answer.number != 0 {
-        return refusal_text(answer, out);
+    let number = answer.number;
+    if number == 0 {
+        let net = reading.net;
+        let written = writer_sheet::write_in_own_order(net, out);
+        return Written::Last(written.length);
     }
-    let net = reading.net;
-    let written = writer_sheet::write_in_own_order(net, out);
-    Written::Last(written.length)
+    refusal_text(answer, out)
 }
