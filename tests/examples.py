@@ -7,6 +7,7 @@ import pathlib
 import re
 import sys
 
+import gates_model
 import sheets
 import settle_model
 from writer_model import Record
@@ -21,6 +22,9 @@ NETS = {
 }
 # The nets of the folders that have several drawings of one net.
 DRAWINGS = {"two-drawings": {"left": sheets.NOR_LATCH, "right": sheets.NOR_LATCH_FROM_0}}
+# The folder of nets drawn as gates, and the one of them that is a net of the other tests.
+GATES = "gates"
+GATE_LATCH = "gates/nor-latch"
 
 
 def text(sheet, jobs):
@@ -61,9 +65,27 @@ def are_one(folder):
     return drawn == nets and explained(folder) == (expected, b"") and all(Record(net).agreed() == expected for net in nets.values())
 
 
+def are_gates(folder):
+    """Is the net the one that the gates make, and does the README explain the net, or the jobs on it?"""
+    net = read(folder, "net")
+    if gates_model.read(read(folder, "gates")) != (0, 0, net):
+        return False
+    if folder == GATE_LATCH:
+        return net == sheets.NOR_LATCH and explained(folder) == (net, b"")
+    jobs, expected = read(folder, "jobs"), read(folder, "expected")
+    return explained(folder) == (expected, jobs) and expected == text(net, jobs)
+
+
+def agrees_with_model(folder):
+    if folder.startswith(GATES + "/"):
+        return are_gates(folder)
+    return agrees(folder) if folder in NETS else folder in DRAWINGS and are_one(folder)
+
+
 def main():
-    folders = sorted(f.name for f in EXAMPLES.iterdir() if f.is_dir())
-    answers = [agrees(folder) if folder in NETS else folder in DRAWINGS and are_one(folder) for folder in folders]
+    folders = sorted(f.name for f in EXAMPLES.iterdir() if f.is_dir() and f.name != GATES)
+    folders += sorted(f"{GATES}/{f.name}" for f in (EXAMPLES / GATES).iterdir() if f.is_dir())
+    answers = [agrees_with_model(folder) for folder in folders]
     for folder, answer in zip(folders, answers):
         print(folder + (": as in the model" if answer else ": DIFFERS"))
     sys.exit(0 if all(answers) else 1)
