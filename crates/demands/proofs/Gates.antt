@@ -21,7 +21,7 @@ use Rattle.gates.specs.GateRows.{netOfGates, gateRows, readGates}
 use Rattle.gates.proofs.GateRowLaws.{gate-zero, gate-number, gate-refused, gate-accepted, gate-then, accepted-valid, accepted-well-formed, accepted-formula, accepted-outputs, accepted-keys}
 use Rattle.writer_text.specs.Text.{printed}
 use Rattle.gates_text.specs.Text.{gateTextOf}
-use Rattle.demands.specs.Gates.{GateAnswers, OutputOf, GatesKept, GateTextAnswers}
+use Rattle.demands.specs.Gates.{GateAnswers, GatesKept, GateTextAnswers}
 
 pub demand1-gates : (sheet : Bytes) → GateAnswers sheet (readGates sheet)
 demand1-gates sheet =

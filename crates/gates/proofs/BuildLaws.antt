@@ -23,7 +23,7 @@ use Rattle.sheet.proofs.PlacedLaws.{placed-none, placed-more}
 use Rattle.gates.specs.declared.Gate.{Gate}
 use Rattle.gates.specs.declared.Gate.the-variants.{Inverter, Nand, Nor}
 use Rattle.gates.specs.Limits.{mostGates}
-use Rattle.gates.specs.Gates.{netWith, edge, gateEdges, hasInner, inner, output, rail, outputAt, innersBefore, innerAt, edgesBefore, vertexFrom, netOfFirst}
+use Rattle.gates.specs.Gates.{netWith, edge, gateEdges, hasInner, inner, output, rail, outputAt, innersBefore, innerAt, edgesBefore, vertexFrom, netOfFirst, verticesBefore}
 use Rattle.gates.specs.Building.{appendVertex, appendEdge, appendEdges, addGate, outputsOf}
 use Rattle.gates.proofs.Vertices.{few-edges, inners-few, edges-few, vertex-output, vertex-inner}
 
@@ -85,7 +85,7 @@ module _ (G : ℕ) (gate : ℕ → Gate) (L : ℕ) (few : G ≤ mostGates) where
   pub gate-added : (n : ℕ) → n < G → addGate (netOfFirst G gate L n) (outputAt n) (gate n) ≡ netOfFirst G gate L (suc n)
   unfolding addGate netOfFirst edgesBefore
   gate-added n h =
-      let k = 2 + G + innersBefore G gate n in
+      let k = verticesBefore G gate n in
       let es = edgesBefore G gate n in
       let own = gateEdges (outputAt n) (innerAt G gate n) (gate n) in
       let room : length es + length own ≤ mostEdges = omega (arith, edges-few G gate n, few-edges (outputAt n) (innerAt G gate n) (gate n)) in
@@ -93,13 +93,13 @@ module _ (G : ℕ) (gate : ℕ → Gate) (L : ℕ) (few : G ≤ mostGates) where
       ap (λ (m : ℕ). appendEdges (cond (hasInner (gate n)) (appendVertex (built k es) inner) (built k es)) (gateEdges (outputAt n) m (gate n))) next
       ∙ by-test (hasInner (gate n))
       (λ i.
-      let size : k + 1 ≡ 2 + G + innersBefore G gate (suc n) = omega (arith, counted n true i) in
+      let size : k + 1 ≡ verticesBefore G gate (suc n) = omega (arith, counted n true i) in
       ap (λ (b : Bool). appendEdges (cond b (appendVertex (built k es) inner) (built k es)) own) i
       ∙ ap (λ (M : Net). appendEdges M own) (vertex-added k inner es (omega (arith, inners-few G gate n)) (vertex-inner G k (omega arith)))
       ∙ edges-added (k + 1) es own room
       ∙ ap (λ (j : ℕ). built j (es ++ own)) size)
       (λ i.
-      let size : k ≡ 2 + G + innersBefore G gate (suc n) = omega (arith, counted n false i) in
+      let size : k ≡ verticesBefore G gate (suc n) = omega (arith, counted n false i) in
       ap (λ (b : Bool). appendEdges (cond b (appendVertex (built k es) inner) (built k es)) own) i
       ∙ edges-added k es own room
       ∙ ap (λ (j : ℕ). built j (es ++ own)) size)

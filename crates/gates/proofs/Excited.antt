@@ -15,7 +15,7 @@ use Rattle.gates.specs.declared.Gate.{Gate}
 use Rattle.gates.specs.declared.Gate.the-variants.{Inverter, Nand, Nor}
 use Rattle.gates.specs.Limits.{mostGates}
 use Rattle.gates.specs.Gates.{gateValue, outputAt, gateNet}
-use Rattle.gates.proofs.Patterns.{alone, firstSymbol, secondSymbol, symbolFor, formula, pattern-fits, AloneAt, alone-at, alone-output}
+use Rattle.gates.proofs.Patterns.{alone, firstSymbol, secondSymbol, symbolFor, formula, pattern-fits, AloneAt, alone-at, alone-output, letter1, letter2}
 use Rattle.gates.proofs.Located.{placeAt, patternEdge}
 use Rattle.net.proofs.Copies.{LinksKept, excitation-copy, fights-copy}
 use Rattle.gates.proofs.Placing.{storage-at, input-at}
@@ -38,15 +38,15 @@ module _ (G : ℕ) (gate : ℕ → Gate) (L : ℕ) (few : G ≤ mostGates) (g : 
   lone : AloneAt γ (value N a q (firstSymbol γ)) (value N a q (secondSymbol γ))
   lone = alone-at γ _ _ (value-cases N a q (firstSymbol γ)) (value-cases N a q (secondSymbol γ))
 
-  same-value : (s : ℕ) → (s ≡ 11) ⊎ (s ≡ 12) → value N a q (symbolFor γ s) ≡ value (alone γ) (lone .state) 0 s
+  same-value : (s : ℕ) → (s ≡ letter1) ⊎ (s ≡ letter2) → value N a q (symbolFor γ s) ≡ value (alone γ) (lone .state) 0 s
   unfolding value symbolValue decode
   same-value s (inl e) = rw e (sym (lone .first) ∙ sym (lone-first))
     where
-      lone-first : value (alone γ) (lone .state) 0 11 ≡ bit (lone .state) 0
+      lone-first : value (alone γ) (lone .state) 0 letter1 ≡ bit (lone .state) 0
       lone-first = refl
   same-value s (inr e) = rw e (sym (lone .second) ∙ sym (lone-second))
     where
-      lone-second : value (alone γ) (lone .state) 0 12 ≡ bit (lone .state) 1
+      lone-second : value (alone γ) (lone .state) 0 letter2 ≡ bit (lone .state) 1
       lone-second = refl
 
   links : (k : Kind) → LinksKept (alone γ) N (placeAt G gate g) (usable (alone γ) (lone .state) 0 k) (usable N a q k)

@@ -1,5 +1,5 @@
 -- The length of a gate sheet and its first line, as code tests them.
-use Prim.Native.Nat.{ℕ, _+_, _/_, _≤_}
+use Prim.Native.Nat.{_+_, _/_, _≤_}
 use mathlib.Core.Path.{_≡_, refl, sym, ap, _∙_}
 use mathlib.Core.Bool.{true, false, _&&_}
 use lib.Dec.{eqb}
@@ -15,7 +15,7 @@ use Rattle.sheet.specs.Rows.{answer, firstRow, byRows}
 use Rattle.sheet.specs.SheetRows.{lineAt, isMissing}
 use Rattle.sheet.proofs.LineSteps.{five-of, unread-of}
 use Rattle.gates.specs.Limits.{gateColumns, gateLineBytes, mostGateLines}
-use Rattle.gates.specs.GateRows.{gateHeaderOk, sheetLineAt, gateHeader, gateCount, letterCount, firstLineOk, gateRows, readGates}
+use Rattle.gates.specs.GateRows.{gateHeaderOk, gateSheetLine, gateHeader, gateCount, letterCount, firstLineOk, gateRows, readGates}
 use Rattle.gates.specs.Building.{gateRest}
 use Rattle.gates.proofs.GateRowLaws.{few-letters}
 
@@ -25,7 +25,7 @@ module _ (b : Bytes) where
   bad-length e = rw e
 
   module _ (size : wholeLines gateColumns mostGateLines (length b) ≡ true) where
-    line-at-0 : sheetLineAt b 0 ≡ readLine gateColumns (take gateLineBytes b)
+    line-at-0 : gateSheetLine b 0 ≡ readLine gateColumns (take gateLineBytes b)
     unfolding lineAt
     line-at-0 = refl
 
@@ -37,7 +37,7 @@ module _ (b : Bytes) where
       header-is : gateHeader b ≡ h
       header-is = rw (line-at-0, five-of (readLine gateColumns (take gateLineBytes b)) h five)
 
-      here : isMissing (sheetLineAt b 0) ≡ false
+      here : isMissing (gateSheetLine b 0) ≡ false
       here = rw (line-at-0, five-of (readLine gateColumns (take gateLineBytes b)) h five)
 
       first-line-is : firstLineOk b ≡ (gateHeaderOk h && eqb (length b / gateLineBytes) (1 + h .second))

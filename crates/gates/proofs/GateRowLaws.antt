@@ -8,7 +8,6 @@ use mathlib.Core.Bool.{true, cond}
 use mathlib.Core.List.{[], _∷_}
 use mathlib.Core.Option.{none}
 use lib.Dec.{eqb}
-use lib.ListN.{length}
 use borrow.Author.Tests.{leb-true, not-false}
 use Rattle.ternary.specs.Bits.{InputState, KeyState}
 use Rattle.ternary.specs.Lists.{Bytes}

@@ -9,7 +9,7 @@ use mathlib.Core.Logic.{_⊎_, inl, inr}
 use mathlib.Core.Bool.{true, false}
 use mathlib.Core.List.{[], _∷_}
 use mathlib.Core.Option.{Option, none, some}
-use lib.ListN.{length, take, drop}
+use lib.ListN.{length}
 use borrow.Author.Tests.{eqb-true}
 use Rattle.ternary.specs.Lists.{Bytes}
 use Rattle.ternary.proofs.Tests.{ands}
@@ -29,7 +29,7 @@ use Rattle.sheet.proofs.LineSteps.{five-of, unread-of, part}
 use Rattle.sheet.proofs.ReaderSteps.{lent}
 use Rattle.gates.specs.Limits.{mostGates, gateColumns, gateLineBytes}
 use Rattle.gates.specs.Gates.{outputAt, netOfFirst}
-use Rattle.gates.specs.GateRows.{lineGate, gateLineOk, sheetLineAt, gateCount, letterCount, gateLineAt, gateFrom, netOfGates, firstLineOk, gateLineRows}
+use Rattle.gates.specs.GateRows.{lineGate, gateLineOk, gateSheetLine, gateCount, letterCount, gateLineAt, gateFrom, netOfGates, firstLineOk, gateLineRows}
 use Rattle.gates.specs.Building.{addGate, outputsOf, gateRest}
 use Rattle.gates.proofs.BuildLaws.{gate-added, outputs-first}
 use Rattle.gates.proofs.Vertices.{inners-few, edges-few}
@@ -49,30 +49,30 @@ module _ (b : Bytes) where
 
   -- ---- the next line
 
-  rest-missing : (m g : ℕ) → sheetLineAt b (1 + g) ≡ none → gateRest b (suc m) g ≡ refused (answer 12 (suc (1 + g)))
+  rest-missing : (m g : ℕ) → gateSheetLine b (1 + g) ≡ none → gateRest b (suc m) g ≡ refused (answer 12 (suc (1 + g)))
   unfolding gateRest inTurn gateLineRows byRows firstRow
   rest-missing m g e = rw (inTurn, e)
 
-  rest-bad : (m g : ℕ) (v : Line) → sheetLineAt b (1 + g) ≡ some v → gateLineOk G L g v ≡ false → gateRest b (suc m) g ≡ refused (answer 52 (suc (1 + g)))
+  rest-bad : (m g : ℕ) (v : Line) → gateSheetLine b (1 + g) ≡ some v → gateLineOk G L g v ≡ false → gateRest b (suc m) g ≡ refused (answer 52 (suc (1 + g)))
   unfolding gateRest inTurn gateLineRows byRows firstRow
   rest-bad m g v e t = rw (inTurn, e, t)
 
-  rest-next : (m g : ℕ) (v : Line) → sheetLineAt b (1 + g) ≡ some v → gateLineOk G L g v ≡ true → gateRest b (suc m) g ≡ gateRest b m (suc g)
+  rest-next : (m g : ℕ) (v : Line) → gateSheetLine b (1 + g) ≡ some v → gateLineOk G L g v ≡ true → gateRest b (suc m) g ≡ gateRest b m (suc g)
   unfolding gateRest inTurn gateLineRows byRows firstRow
   rest-next m g v e t = rw (inTurn, e, t)
 
   -- ---- the line that is lent
 
   module _ (at g : ℕ) (place : at ≡ gateLineBytes * (1 + g)) where
-    same-line : readLine gateColumns (lent gateLineBytes b at) ≡ sheetLineAt b (1 + g)
+    same-line : readLine gateColumns (lent gateLineBytes b at) ≡ gateSheetLine b (1 + g)
     unfolding lineAt
     same-line = ap (readLine gateColumns) (part b at gateLineBytes ∙ rw place)
 
-    not-fields : lineAnswer (readLine gateColumns (lent gateLineBytes b at)) ≡ Refused → sheetLineAt b (1 + g) ≡ none
-    not-fields e = unread-of (sheetLineAt b (1 + g)) (rw same-line at e)
+    not-fields : lineAnswer (readLine gateColumns (lent gateLineBytes b at)) ≡ Refused → gateSheetLine b (1 + g) ≡ none
+    not-fields e = unread-of (gateSheetLine b (1 + g)) (rw same-line at e)
 
-    five-fields : (v : Line) → lineAnswer (readLine gateColumns (lent gateLineBytes b at)) ≡ Five v → sheetLineAt b (1 + g) ≡ some v
-    five-fields v e = five-of (sheetLineAt b (1 + g)) v (rw same-line at e)
+    five-fields : (v : Line) → lineAnswer (readLine gateColumns (lent gateLineBytes b at)) ≡ Five v → gateSheetLine b (1 + g) ≡ some v
+    five-fields v e = five-of (gateSheetLine b (1 + g)) v (rw same-line at e)
 
     line-is : (v : Line) → lineAnswer (readLine gateColumns (lent gateLineBytes b at)) ≡ Five v → gateLineAt b g ≡ v
     line-is v e = rw (five-fields v e)

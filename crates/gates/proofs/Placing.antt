@@ -13,7 +13,7 @@ use Rattle.net.specs.Graph.{hasRole, isInput, isStorage}
 use Rattle.net.specs.State.{inputOf}
 use Rattle.gates.specs.declared.Gate.{Gate}
 use Rattle.gates.specs.Limits.{mostGates}
-use Rattle.gates.specs.Gates.{hasInner, outputAt, innersBefore, innerAt, netOfFirst, gateNet}
+use Rattle.gates.specs.Gates.{hasInner, outputAt, innersBefore, innerAt, netOfFirst, gateNet, verticesBefore}
 use Rattle.gates.proofs.Vertices.{inners-more, inners-mono, role-low, role-high, role-output, role-inner, role-zero, role-outside, input-low, input-high, input-other}
 use Rattle.gates.proofs.Patterns.{lettered, alone, alone-count, alone-inners, storage-cases, input-cases}
 use Rattle.gates.proofs.Located.{placeAt}
@@ -23,18 +23,18 @@ module _ (G : ℕ) (gate : ℕ → Gate) where
 
   -- a place is a rail or no vertex, an output, or an inner vertex
   data View (g u : ℕ) : Type 0 where
-    low : placeAt G gate g u ≤ 2 → View g u
-    out : u ≡ 3 → placeAt G gate g u ≡ outputAt g → View g u
-    inn : u ≡ 4 → hasInner (gate g) ≡ true → placeAt G gate g u ≡ innerAt G gate g → View g u
+    a-rail : placeAt G gate g u ≤ 2 → View g u
+    an-output : u ≡ 3 → placeAt G gate g u ≡ outputAt g → View g u
+    an-inner : u ≡ 4 → hasInner (gate g) ≡ true → placeAt G gate g u ≡ innerAt G gate g → View g u
 
   view : (g u : ℕ) → View g u
-  view g zero = low (omega arith)
-  view g (suc zero) = low (omega arith)
-  view g (suc (suc zero)) = low (omega arith)
-  view g (suc (suc (suc zero))) = out refl refl
+  view g zero = a-rail (omega arith)
+  view g (suc zero) = a-rail (omega arith)
+  view g (suc (suc zero)) = a-rail (omega arith)
+  view g (suc (suc (suc zero))) = an-output refl refl
   view g (suc (suc (suc (suc zero)))) =
-      by-test (hasInner (gate g)) (λ h. inn refl h (rw h)) (λ h. low (rw h (omega arith)))
-  view g (suc (suc (suc (suc (suc u))))) = low (omega arith)
+      by-test (hasInner (gate g)) (λ h. an-inner refl h (rw h)) (λ h. a-rail (rw h (omega arith)))
+  view g (suc (suc (suc (suc (suc u))))) = a-rail (omega arith)
 
   -- inner vertices rise with the gates that have one
   inner-apart : (g h : ℕ) → hasInner (gate g) ≡ true → hasInner (gate h) ≡ true → innersBefore G gate g ≡ innersBefore G gate h → g ≡ h
@@ -50,14 +50,14 @@ module _ (G : ℕ) (gate : ℕ → Gate) where
   apart g h u v l m su e = go (storage-cases (gate g) u su) (view g u) (view h v)
     where
       go : (u ≡ 3) ⊎ ((u ≡ 4) × (hasInner (gate g) ≡ true)) → View g u → View h v → (g ≡ h) × (u ≡ v)
-      go c (out p q) (low r) = absurd (omega arith)
-      go c (out p q) (out r s) = (omega arith, omega arith)
-      go c (out p q) (inn r i s) = absurd (omega arith)
-      go c (inn p i q) (low r) = absurd (omega arith)
-      go c (inn p i q) (out r s) = absurd (omega arith)
-      go c (inn p i q) (inn r j s) = (inner-apart g h i j (omega arith), omega arith)
-      go (inl c) (low p) w = absurd (omega (arith, ap (placeAt G gate g) c))
-      go (inr c) (low p) w = absurd (omega (arith, ap (placeAt G gate g) (c .0) ∙ at-inner (c .1)))
+      go c (an-output p q) (a-rail r) = absurd (omega arith)
+      go c (an-output p q) (an-output r s) = (omega arith, omega arith)
+      go c (an-output p q) (an-inner r i s) = absurd (omega arith)
+      go c (an-inner p i q) (a-rail r) = absurd (omega arith)
+      go c (an-inner p i q) (an-output r s) = absurd (omega arith)
+      go c (an-inner p i q) (an-inner r j s) = (inner-apart g h i j (omega arith), omega arith)
+      go (inl c) (a-rail p) w = absurd (omega (arith, ap (placeAt G gate g) c))
+      go (inr c) (a-rail p) w = absurd (omega (arith, ap (placeAt G gate g) (c .0) ∙ at-inner (c .1)))
         where
           at-inner : hasInner (gate g) ≡ true → placeAt G gate g 4 ≡ innerAt G gate g
           at-inner i = rw i
@@ -73,7 +73,7 @@ module _ (G : ℕ) (gate : ℕ → Gate) where
       abbrev γ : Gate
       γ = gate g
 
-      inner-high : hasInner γ ≡ true → innerAt G gate g ≤ 2 + G + innersBefore G gate G
+      inner-high : hasInner γ ≡ true → innerAt G gate g ≤ verticesBefore G gate G
       inner-high i = omega (arith, inners-more G gate g i, inners-mono G gate (suc g) G l)
 
       -- ---- roles
@@ -129,7 +129,7 @@ module _ (G : ℕ) (gate : ℕ → Gate) where
           lone-other i = rw i
 
       -- a vertex of the gate alone stands at a vertex
-      pub place-range : (u : ℕ) → 1 ≤ u → u ≤ (alone γ) .«vertex_count» → (1 ≤ at u) × (at u ≤ 2 + G + innersBefore G gate G)
+      pub place-range : (u : ℕ) → 1 ≤ u → u ≤ (alone γ) .«vertex_count» → (1 ≤ at u) × (at u ≤ verticesBefore G gate G)
       place-range zero from to = absurd (omega arith)
       place-range (suc zero) from to = (omega arith, omega arith)
       place-range (suc (suc zero)) from to = (omega arith, omega arith)

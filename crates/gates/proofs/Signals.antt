@@ -21,7 +21,7 @@ use Rattle.gates.specs.declared.Gate.{Gate}
 use Rattle.gates.specs.Limits.{mostGates}
 use Rattle.gates.specs.Gates.{gateNet}
 use Rattle.gates.proofs.Vertices.{vertex-at, VertexCase, no-vertex, a-rail, an-output, an-inner, vertex-case}
-use Rattle.gates.proofs.Patterns.{alone, firstSymbol, secondSymbol, symbolFor, pattern-fits}
+use Rattle.gates.proofs.Patterns.{alone, firstSymbol, secondSymbol, symbolFor, pattern-fits, letter1, letter2}
 use Rattle.gates.proofs.Located.{placeAt, patternEdge}
 use Rattle.net.proofs.Copies.{LinksKept, walk-back}
 use Rattle.gates.proofs.Placing.{storage-at}
@@ -83,7 +83,7 @@ module _ (G : ℕ) (gate : ℕ → Gate) (L : ℕ) (few : G ≤ mostGates) where
             let r = walk-back (alone (gate g)) N at (storage-at G gate L few g l) every su refl p in
             (r .0, sym (storage-at G gate L few g l (r .0)) ∙ rw (r .1) (c .to), r .1)
 
-    of-gate : (s : ℕ) → (s ≡ 11) ⊎ (s ≡ 12) → (symbolFor (gate g) s ≡ firstSymbol (gate g)) ⊎ (symbolFor (gate g) s ≡ secondSymbol (gate g))
+    of-gate : (s : ℕ) → (s ≡ letter1) ⊎ (s ≡ letter2) → (symbolFor (gate g) s ≡ firstSymbol (gate g)) ⊎ (symbolFor (gate g) s ≡ secondSymbol (gate g))
     of-gate s (inl e) = inl (rw e)
     of-gate s (inr e) = inr (rw e)
 

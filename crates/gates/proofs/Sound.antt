@@ -25,10 +25,10 @@ use Rattle.net.proofs.Values.{within-low, within-high}
 use Rattle.gates.specs.declared.Gate.{Gate}
 use Rattle.gates.specs.declared.Gate.the-variants.{Inverter, Nand, Nor}
 use Rattle.gates.specs.Limits.{mostGates}
-use Rattle.gates.specs.Gates.{gateValue, outputAt, netOfFirst, gateNet}
+use Rattle.gates.specs.Gates.{gateValue, outputAt, netOfFirst, gateNet, high, firstOutput}
 use Rattle.gates.specs.GateRows.{gateSymbol}
 use Rattle.gates.proofs.Vertices.{vertices-few, role-output}
-use Rattle.gates.proofs.Patterns.{firstSymbol, secondSymbol, symbolFor, pattern-fits}
+use Rattle.gates.proofs.Patterns.{firstSymbol, secondSymbol, symbolFor, pattern-fits, letter1, letter2}
 use Rattle.gates.proofs.Located.{patternEdge, located}
 use Rattle.gates.proofs.Excited.{output-excitation}
 use Rattle.gates.proofs.WholeNet.{output-gate, no-fight}
@@ -56,7 +56,7 @@ module _ (G : ℕ) (gate : ℕ → Gate) (L : ℕ) (few : G ≤ mostGates) (allo
       let k = r .2 .0 in
       rw (r .2 .2) (of-gate (r .0) (allowed (r .0) (r .1)) ((patternEdge G gate (r .0) k) .symbol) (pattern-fits (gate (r .0)) k (r .2 .1) .letter))
     where
-      of-gate : (g : ℕ) → Allowed G L (gate g) → (s : ℕ) → (s ≡ 11) ⊎ (s ≡ 12) → gateSymbol G L (decode (symbolFor (gate g) s)) ≡ true
+      of-gate : (g : ℕ) → Allowed G L (gate g) → (s : ℕ) → (s ≡ letter1) ⊎ (s ≡ letter2) → gateSymbol G L (decode (symbolFor (gate g) s)) ≡ true
       of-gate g a s (inl e) = rw e (a .first)
       of-gate g a s (inr e) = rw e (a .second)
 
@@ -64,7 +64,7 @@ module _ (G : ℕ) (gate : ℕ → Gate) (L : ℕ) (few : G ≤ mostGates) (allo
   unfolding netOfFirst isStorage
   symbol-known (Constant c) t = refl
   symbol-known (Letter j) t = t
-  symbol-known (Vertex v) t = or-right (hasRole N v 1) _ (role-output G gate L few v 2 (within-low 3 (2 + G) v t) (within-high 3 (2 + G) v t))
+  symbol-known (Vertex v) t = or-right (hasRole N v 1) _ (role-output G gate L few v 2 (within-low firstOutput (high + G) v t) (within-high firstOutput (high + G) v t))
   symbol-known Unknown t = t
 
   -- ---- key nodes are outputs
@@ -79,13 +79,13 @@ module _ (G : ℕ) (gate : ℕ → Gate) (L : ℕ) (few : G ≤ mostGates) (allo
   key-gate v t =
       let r = any-found (λ i. eqb ((edgeAt N i) .symbol) (vertexBase + v)) (N .«edge_count») (search ands) in
       let s : (edgeAt N (r .0)) .symbol ≡ vertexBase + v = eqb-true _ _ (r .2) in
-      let high = storage-range N v (search ands) in
+      let top = storage-range N v (search ands) in
       let low : 1 ≤ v = storage-low v (search ands) in
-      let d : Vertex (vertexBase + v - vertexBase) ≡ decode (vertexBase + v) = decode-vertex (vertexBase + v) (omega arith) (omega (arith, high, vertices-few G gate L few)) in
+      let d : Vertex (vertexBase + v - vertexBase) ≡ decode (vertexBase + v) = decode-vertex (vertexBase + v) (omega arith) (omega (arith, top, vertices-few G gate L few)) in
       let back : vertexBase + v - vertexBase ≡ v = omega arith in
-      let w : within 3 (2 + G) (vertexBase + v - vertexBase) ≡ true = rw (s, ← d) at (symbol-allowed (r .0) (r .1)) in
-      let from = within-low 3 (2 + G) (vertexBase + v - vertexBase) w in
-      let to = within-high 3 (2 + G) (vertexBase + v - vertexBase) w in
+      let w : within firstOutput (high + G) (vertexBase + v - vertexBase) ≡ true = rw (s, ← d) at (symbol-allowed (r .0) (r .1)) in
+      let from = within-low firstOutput (high + G) (vertexBase + v - vertexBase) w in
+      let to = within-high firstOutput (high + G) (vertexBase + v - vertexBase) w in
       (v - 3, omega (arith, back, from, to), omega (arith, back, from))
 
   -- ---- C1 to C3

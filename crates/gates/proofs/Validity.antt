@@ -1,5 +1,5 @@
 -- The record of accepted gates is valid, so no call refuses it with 41; of the rows over the graph only 22 can hold.
-use Prim.Native.Nat.{ℕ, zero, suc, _+_, _-_, _<_, _≤_}
+use Prim.Native.Nat.{ℕ, zero, suc, _-_, _<_, _≤_}
 use native.Mathlib.Omega.{arith}
 use mathlib.Core.Path.{_≡_, refl, sym, ap, _∙_}
 use mathlib.Core.Logic.{inl, inr, ⊎-elim}
@@ -27,7 +27,7 @@ use Rattle.sheet.proofs.PlacedLaws.{length-placed}
 use Rattle.sheet.proofs.Validity.{valid-iff}
 use Rattle.gates.specs.declared.Gate.{Gate}
 use Rattle.gates.specs.Limits.{mostGates}
-use Rattle.gates.specs.Gates.{innersBefore, edgesBefore, vertexFrom, netOfFirst, gateNet}
+use Rattle.gates.specs.Gates.{edgesBefore, vertexFrom, netOfFirst, gateNet, verticesBefore}
 use Rattle.gates.proofs.Vertices.{vertices-few, vertex-at, edges-few}
 use Rattle.gates.proofs.Patterns.{Fitting, pattern-fits}
 use Rattle.gates.proofs.Located.{placeAt, imageAt, patternEdge, located, edge-at}
@@ -103,7 +103,7 @@ module _ (G : ℕ) (gate : ℕ → Gate) (L : ℕ) (few : G ≤ mostGates) where
 
     vertices-fit : (allOf (vertexOk N) (take (N .«vertex_count») (N .vertices)) && allOf isNoVertex (drop (N .«vertex_count») (N .vertices))) ≡ true
     unfolding netOfFirst isNoVertex
-    vertices-fit = placed-fit (vertexOk N) isNoVertex noVertex mostVertices (2 + G + innersBefore G gate G) (vertexFrom G) (omega (arith, vertices-few G gate L few)) (λ i h. vertex-ok i) refl
+    vertices-fit = placed-fit (vertexOk N) isNoVertex noVertex mostVertices (verticesBefore G gate G) (vertexFrom G) (omega (arith, vertices-few G gate L few)) (λ i h. vertex-ok i) refl
 
     edges-fit : (allOf (edgeOk N) (take (N .«edge_count») (N .edges)) && allOf isNoEdge (drop (N .«edge_count») (N .edges))) ≡ true
     unfolding netOfFirst isNoEdge
@@ -116,14 +116,14 @@ module _ (G : ℕ) (gate : ℕ → Gate) (L : ℕ) (few : G ≤ mostGates) where
     counts-ok =
         both
         (both
-        (both (le-leb 1 (2 + G + innersBefore G gate G) (omega arith)) (le-leb (2 + G + innersBefore G gate G) mostVertices (omega (arith, vertices-few G gate L few))))
+        (both (le-leb 1 (verticesBefore G gate G) (omega arith)) (le-leb (verticesBefore G gate G) mostVertices (omega (arith, vertices-few G gate L few))))
         (le-leb (length (edgesBefore G gate G)) mostEdges (omega (arith, edges-few G gate G))))
         (le-leb L mostLetters letters)
 
     -- what the rows over the graph may count on
     pub gates-checked : Checked N
     unfolding netOfFirst
-    gates-checked = record { counts = counts-ok; vertices = λ v low high. rw (vertex-at G gate L few v low high) (vertex-ok (v - 1)); edges = edge-ok }
+    gates-checked = record { counts = counts-ok; vertices = λ v from to. rw (vertex-at G gate L few v from to) (vertex-ok (v - 1)); edges = edge-ok }
 
     pub gates-valid : keyPlace N ≡ none → valid N ≡ true
     unfolding netOfFirst

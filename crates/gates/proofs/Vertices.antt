@@ -19,7 +19,7 @@ use Rattle.sheet.proofs.PlacedLaws.{placed-at}
 use Rattle.gates.specs.declared.Gate.{Gate}
 use Rattle.gates.specs.declared.Gate.the-variants.{Inverter, Nand, Nor}
 use Rattle.gates.specs.Limits.{mostGates}
-use Rattle.gates.specs.Gates.{gateEdges, hasInner, output, inner, outputAt, innersBefore, innerAt, edgesBefore, vertexFrom, netOfFirst, gateNet}
+use Rattle.gates.specs.Gates.{gateEdges, hasInner, output, inner, outputAt, innersBefore, innerAt, edgesBefore, vertexFrom, netOfFirst, gateNet, verticesBefore, high, firstOutput}
 
 pub few-edges : (o m : ℕ) (γ : Gate) → length (gateEdges o m γ) ≤ 4
 unfolding gateEdges
@@ -27,12 +27,12 @@ few-edges o m (Inverter s) = omega arith
 few-edges o m (Nand s t) = omega arith
 few-edges o m (Nor s t) = omega arith
 
-pub vertex-output : (G i : ℕ) → 2 ≤ i → i < 2 + G → vertexFrom G i ≡ output
+pub vertex-output : (G i : ℕ) → high ≤ i → i < high + G → vertexFrom G i ≡ output
 vertex-output G zero h k = absurd (omega arith)
 vertex-output G (suc zero) h k = absurd (omega arith)
 vertex-output G (suc (suc g)) h k = rw (lt-ltb g G (omega arith))
 
-pub vertex-inner : (G i : ℕ) → 2 + G ≤ i → vertexFrom G i ≡ inner
+pub vertex-inner : (G i : ℕ) → high + G ≤ i → vertexFrom G i ≡ inner
 vertex-inner G zero h = absurd (omega arith)
 vertex-inner G (suc zero) h = absurd (omega arith)
 vertex-inner G (suc (suc g)) h = rw (le-ltb g G (omega arith))
@@ -61,19 +61,19 @@ module _ (G : ℕ) (gate : ℕ → Gate) where
     N = gateNet G gate L
 
     abbrev pub count : ℕ
-    count = 2 + G + innersBefore G gate G
+    count = verticesBefore G gate G
 
-    pub vertices-few : count ≤ 2 + G + G
+    pub vertices-few : count ≤ high + G + G
     vertices-few = omega (arith, inners-few G)
 
     pub vertex-at : (v : ℕ) → 1 ≤ v → v ≤ count → vertexAt N v ≡ vertexFrom G (v - 1)
     unfolding vertexAt netOfFirst
-    vertex-at v low high =
+    vertex-at v from to =
         placed-at mostVertices (vertexFrom G) noVertex count (v - 1) (omega (arith, vertices-few)) ∙ rw (lt-ltb (v - 1) count (omega arith))
 
     role-at : (v r : ℕ) → 1 ≤ v → v ≤ count → hasRole N v r ≡ eqb ((vertexFrom G (v - 1)) .role) r
     unfolding hasRole netOfFirst
-    role-at v r low high = rw (lt-ltb 0 v low, le-leb v count high, vertex-at v low high)
+    role-at v r from to = rw (lt-ltb 0 v from, le-leb v count to, vertex-at v from to)
 
     pub role-low : (r : ℕ) → hasRole N 1 r ≡ eqb 0 r
     role-low r = role-at 1 r (omega arith) (omega arith)
@@ -81,11 +81,11 @@ module _ (G : ℕ) (gate : ℕ → Gate) where
     pub role-high : (r : ℕ) → hasRole N 2 r ≡ eqb 0 r
     role-high r = role-at 2 r (omega arith) (omega arith)
 
-    pub role-output : (v r : ℕ) → 3 ≤ v → v ≤ 2 + G → hasRole N v r ≡ eqb 2 r
-    role-output v r low high = role-at v r (omega arith) (omega arith) ∙ rw (vertex-output G (v - 1) (omega arith) (omega arith))
+    pub role-output : (v r : ℕ) → firstOutput ≤ v → v ≤ high + G → hasRole N v r ≡ eqb 2 r
+    role-output v r from to = role-at v r (omega arith) (omega arith) ∙ rw (vertex-output G (v - 1) (omega arith) (omega arith))
 
-    pub role-inner : (v r : ℕ) → 3 + G ≤ v → v ≤ count → hasRole N v r ≡ eqb 1 r
-    role-inner v r low high = role-at v r (omega arith) high ∙ rw (vertex-inner G (v - 1) (omega arith))
+    pub role-inner : (v r : ℕ) → outputAt G ≤ v → v ≤ count → hasRole N v r ≡ eqb 1 r
+    role-inner v r from to = role-at v r (omega arith) to ∙ rw (vertex-inner G (v - 1) (omega arith))
 
     pub role-zero : (r : ℕ) → hasRole N 0 r ≡ false
     unfolding hasRole
@@ -112,8 +112,8 @@ module _ (G : ℕ) (gate : ℕ → Gate) where
     pub data VertexCase (v : ℕ) : Type 0 where
       no-vertex : ((r : ℕ) → hasRole N v r ≡ false) → VertexCase v
       a-rail : (v ≡ 1) ⊎ (v ≡ 2) → ((r : ℕ) → hasRole N v r ≡ eqb 0 r) → VertexCase v
-      an-output : 3 ≤ v → v ≤ 2 + G → ((r : ℕ) → hasRole N v r ≡ eqb 2 r) → VertexCase v
-      an-inner : 3 + G ≤ v → v ≤ count → ((r : ℕ) → hasRole N v r ≡ eqb 1 r) → VertexCase v
+      an-output : firstOutput ≤ v → v ≤ high + G → ((r : ℕ) → hasRole N v r ≡ eqb 2 r) → VertexCase v
+      an-inner : outputAt G ≤ v → v ≤ count → ((r : ℕ) → hasRole N v r ≡ eqb 1 r) → VertexCase v
 
     pub vertex-case : (v : ℕ) → VertexCase v
     vertex-case zero = no-vertex role-zero

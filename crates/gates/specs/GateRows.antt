@@ -59,8 +59,8 @@ lineGate v = gateOf (v .second) (v .fourth) (v .fifth)
 
 module _ (b : Bytes) where
   -- line n, the header being line 0: its five numbers, or none where it is not five fields
-  abbrev pub sheetLineAt : ℕ → Option Line
-  sheetLineAt n = lineAt gateColumns b n
+  abbrev pub gateSheetLine : ℕ → Option Line
+  gateSheetLine n = lineAt gateColumns b n
 
   abbrev pub gateHeader : Line
   gateHeader = header gateColumns b
@@ -74,7 +74,7 @@ module _ (b : Bytes) where
 
   -- the line of gate g, and the gate that it gives
   abbrev pub gateLineAt : ℕ → Line
-  gateLineAt g = numbersOf (sheetLineAt (1 + g))
+  gateLineAt g = numbersOf (gateSheetLine (1 + g))
 
   abbrev pub gateFrom : ℕ → Gate
   gateFrom g = lineGate (gateLineAt g)

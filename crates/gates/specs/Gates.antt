@@ -88,6 +88,10 @@ module _ (G : ℕ) (gate : ℕ → Gate) where
   abbrev pub innerAt : ℕ → ℕ
   innerAt g = outputAt G + innersBefore g
 
+  -- so many vertices there are with those of the first n gates
+  abbrev pub verticesBefore : ℕ → ℕ
+  verticesBefore n = high + G + innersBefore n
+
   -- the edges of the first n gates, gate by gate
   unfoldable pub edgesBefore : ℕ → List Edge
   edgesBefore zero = []
@@ -96,10 +100,9 @@ module _ (G : ℕ) (gate : ℕ → Gate) where
   -- the record of the first n gates, where there are G outputs and L letters
   unfoldable pub netOfFirst : (L n : ℕ) → Net
   netOfFirst L n =
-      let vertices = high + G + innersBefore n in
       let edges = edgesBefore n in
       netWith
-      (placed mostVertices vertices (vertexFrom G) noVertex) vertices
+      (placed mostVertices (verticesBefore n) (vertexFrom G) noVertex) (verticesBefore n)
       (placed mostEdges (length edges) (λ i. getD edges i noEdge) noEdge) (length edges)
       L
 

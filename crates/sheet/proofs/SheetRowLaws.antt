@@ -9,18 +9,17 @@ use mathlib.Core.List.{List, _∷_, _++_}
 use mathlib.Core.Option.{Option, none, some}
 use lib.Dec.{eqb}
 use lib.ListN.{length, take, drop, set}
-use borrow.Author.Tests.{lt-ltb, le-ltb, ne-eqb}
+use borrow.Author.Tests.{lt-ltb, le-ltb}
 use Rattle.net.specs.declared.Vertex.{Vertex}
 use Rattle.net.specs.declared.Edge.{Edge}
 use Rattle.net.specs.declared.Net.{Net}
 use Rattle.net.specs.Limits.{mostVertices, mostEdges}
 use Rattle.net.specs.Graph.{noVertex, noEdge, vertexAt, hasRole, isStorage}
 use Rattle.sheet.specs.declared.Answer.{Answer}
-use Rattle.sheet.specs.declared.Reading.{Reading}
 use Rattle.sheet.specs.declared.Line.{Line}
 use Rattle.sheet.specs.Limits.{lineBytes}
 use Rattle.sheet.specs.Line.{readLine}
-use Rattle.sheet.specs.Rows.{answer, Row, row, when, whenAt, firstRow, byRows, answered, First, NoRow}
+use Rattle.sheet.specs.Rows.{answer, Row, row, when, whenAt, firstRow, byRows, First, NoRow}
 use Rattle.sheet.specs.Record.{startNet, refused, accepted, readBy}
 use Rattle.sheet.specs.Rules.{headerOk, vertexOk, symbolOk, edgeOk}
 use Rattle.sheet.specs.Graph.{graphRows}

@@ -5,7 +5,7 @@ use native.Mathlib.Omega.{arith}
 use mathlib.Core.Path.{sym}
 use borrow.Author.Tests.{le-leb, eq-eqb, ne-eqb}
 use borrow.Author.Needs.{needs}
-use Rattle.sheet.specs.Limits.{mostColumns, mostLines, lineBytes}
+use Rattle.sheet.specs.Limits.{mostColumns, lineBytes}
 use Rattle.sheet.specs.Reading.{wholeLines}
 use Rattle.sheet_readings.proofs.whole_lines.Statement.{statement}
 use Rattle.sheet_readings.proofs.whole_lines.Tie as tie
