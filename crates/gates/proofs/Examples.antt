@@ -11,7 +11,7 @@ use Rattle.sheet.specs.Rows.{answer, byRows}
 use Rattle.sheet.specs.SheetRows.{placed, inTurn, lineAt}
 use Rattle.sheet.specs.Text.{text}
 use Rattle.sheet.proofs.Sheets.{open-all}
-use Rattle.gates.specs.Limits.{gateColumns}
+use Rattle.gates.specs.Limits.{gateColumns, mostGateBytes}
 use Rattle.gates.specs.Gates.{gateEdges, innersBefore, edgesBefore, netOfFirst}
 use Rattle.gates.specs.GateRows.{gateHeaderOk, gateOf, gateLineOk, netOfGates, firstLineOk, gateLineRows, gateRows, readGates}
 
@@ -53,6 +53,10 @@ unfolding open-gates latch
 latch-read = refl
 
 -- ---- refused
+
+-- the most bytes that C-14 names
+most-bytes : mostGateBytes ≡ 525
+most-bytes = refl
 
 no-bytes : readGates [] ≡ refused (answer 11 0)
 unfolding open-gates

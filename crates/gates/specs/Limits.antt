@@ -1,6 +1,7 @@
 -- The limits of a gate sheet, each written once.
 use Prim.Native.Nat.{ℕ, _+_, _*_}
 use Rattle.sheet.specs.Limits.{Columns, fieldWidth, lineBytes}
+use Rattle.gates.specs.declared.GateLimits.{GateLimits}
 
 abbrev pub mostGates : ℕ
 mostGates = 24
@@ -22,3 +23,14 @@ mostGateBytes = gateLineBytes * mostGateLines
 -- the last number of a header
 abbrev pub gateEdition : ℕ
 gateEdition = 1
+
+abbrev pub gateLimits : GateLimits
+gateLimits =
+    record {
+      columns = gateColumns;
+      line = gateLineBytes;
+      gates = mostGates;
+      lines = mostGateLines;
+      bytes = mostGateBytes;
+      edition = gateEdition;
+    }

@@ -1,6 +1,8 @@
 //! Gate sheets: a net drawn as inverters, NANDs and NORs. What a gate sheet means stands in specs/, the laws of it in proofs/. The functions over it are in the
 //! crates `gates_reader` and `gates_text`.
 
+ghost use mathlib.Core.Path.{_≡_};
+ghost use Rattle.gates.specs.Limits.{gateLimits};
 use sheet::Sheet;
 
 // A gate by the numbers of its symbols.
@@ -41,4 +43,28 @@ impl GateSheet {
     pub const HIGH: u8 = 2;
 
     pub const FIRST_OUTPUT: u8 = 3;
+}
+
+// The limits as one value, to hold the constants to the definitions.
+pub struct GateLimits {
+    pub columns: usize,
+    pub line: usize,
+    pub gates: usize,
+    pub lines: usize,
+    pub bytes: usize,
+    pub edition: u32,
+}
+
+// The code's limits are those of the definitions.
+pub fn limits_in_force() -> GateLimits
+    ensures { λ r. ⌜ r ≡ gateLimits ⌝ }
+{
+    GateLimits {
+        columns: GateSheet::COLUMNS,
+        line: GateSheet::LINE_WIDTH,
+        gates: GateSheet::MOST_GATES,
+        lines: GateSheet::MOST_LINES,
+        bytes: GateSheet::MOST_BYTES,
+        edition: GateSheet::EDITION,
+    }
 }
