@@ -252,6 +252,7 @@ excited(1, "formula: the last gate's output is vertex 26", 26)
 program_text(sheet(8, [ZERO, ONE] + [OUTPUT] * 24 + [STORAGE] * 24, [edge for g in range(24) for edge in nand(3 + g, 27 + g, 0, 1)]),
              "gate g's inner vertex is 26 + g where all have one: 147 lines")
 refused(11, 0, "row 11: 546 bytes, though the header asks for no more than 24 gates", gate_sheet(8, *[(NAND, 0, 1)] * 24) + line(7, 2, 127, 0, 1))
+refused(11, 0, "row 11: 546 bytes, a header for 25 gates and a line for each", gate_sheet(8, *[(NAND, 0, 1)] * 25))
 refused(11, 0, "row 11 comes before row 12: 546 blanks", b" " * 546)
 refused(11, 0, "row 11: a net's sheet may have 546 bytes, a gate sheet may not", sheet(0, [ZERO] * 25, []))
 
