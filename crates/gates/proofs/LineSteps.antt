@@ -3,7 +3,7 @@ use Prim.Native.Nat.{ℕ, zero, suc, _+_, _-_, _≤_, _<_}
 use native.Mathlib.Omega.{arith}
 use mathlib.Core.Path.{_≡_, refl, sym, ap}
 use mathlib.Core.Logic.{_≢_}
-use mathlib.Core.Bool.{Bool, true, false, cond, _&&_}
+use mathlib.Core.Bool.{Bool, true, false, true≢false, cond, _&&_}
 use lib.Dec.{ltb, eqb}
 use borrow.Author.Tests.{leb-true, eqb-true, eq-eqb, ne-eqb, le-leb, lt-leb, ltb-true, ltb-false, lt-ltb}
 use Rattle.ternary.proofs.Tests.{ands, fails, same-test, both, by-test, not-both}
@@ -12,10 +12,13 @@ use Rattle.net.specs.Symbols.{within, decode, symbolBound}
 use Rattle.net.proofs.Cases.{decode-high}
 use Rattle.net.proofs.Values.{within-low, within-high}
 use Rattle.sheet.specs.declared.Line.{Line}
+use Rattle.gates.specs.declared.Gate.{Gate}
 use Rattle.gates.specs.declared.Gate.the-variants.{Inverter, Nand, Nor}
+use Rattle.gates.specs.declared.GateRead.the-variants.{Gate as Decoded, Refused}
 use Rattle.gates.specs.Limits.{mostGates, gateEdition}
 use Rattle.gates.specs.Gates.{high, firstOutput, outputAt}
-use Rattle.gates.specs.GateRows.{gateSymbol, gateHeaderOk, gateOf, gateLineOk}
+use Rattle.gates.specs.GateRows.{gateSymbol, gateHeaderOk, gateOf, lineGate, gateLineOk}
+use Rattle.gates.specs.Building.{decodeGate}
 
 -- ---- a symbol
 
@@ -153,3 +156,20 @@ module _ (G L g : ℕ) (v : Line) where
             (λ t. omega (arith, eqb-true (v .fifth) 0 (rw t at last)))
             (λ t. symbol-range G L (v .fifth) (rw t at last)),
       )
+
+  -- ---- what it is decoded to
+
+  pub decoded-refused : decodeGate G L g v ≡ Refused → gateLineOk G L g v ≡ false
+  decoded-refused e = by-test (gateLineOk G L g v) (λ t. absurd (clash (rw t at e))) (λ t. t)
+    where
+      clash : Decoded (lineGate v) ≡ Refused → ⊥
+      clash q = true≢false (cc)
+
+  pub decoded-gate : (γ : Gate) → decodeGate G L g v ≡ Decoded γ → (gateLineOk G L g v ≡ true) × (lineGate v ≡ γ)
+  decoded-gate γ e = by-test (gateLineOk G L g v) (λ t. (t, same (rw t at e))) (λ t. absurd (clash (rw t at e)))
+    where
+      same : Decoded (lineGate v) ≡ Decoded γ → lineGate v ≡ γ
+      same q = cc
+
+      clash : Refused ≡ Decoded γ → ⊥
+      clash q = true≢false (cc)

@@ -27,14 +27,17 @@ use Rattle.sheet.specs.Rows.{answer, row, firstRow, byRows}
 use Rattle.sheet.specs.SheetRows.{lineAt, inTurn}
 use Rattle.sheet.proofs.LineSteps.{five-of, unread-of, part}
 use Rattle.sheet.proofs.ReaderSteps.{lent}
+use Rattle.gates.specs.declared.Gate.{Gate}
+use Rattle.gates.specs.declared.GateRead.the-variants.{Gate as Decoded, Refused as Undecoded}
 use Rattle.gates.specs.Limits.{mostGates, gateColumns, gateLineBytes}
 use Rattle.gates.specs.Gates.{outputAt, netOfFirst}
 use Rattle.gates.specs.GateRows.{lineGate, gateLineOk, gateSheetLine, gateCount, letterCount, gateLineAt, gateFrom, netOfGates, firstLineOk, gateLineRows}
-use Rattle.gates.specs.Building.{addGate, outputsOf, gateRest}
+use Rattle.gates.specs.Building.{decodeGate, addGate, outputsOf, gateRest}
 use Rattle.gates.proofs.BuildLaws.{gate-added, outputs-first}
 use Rattle.gates.proofs.Vertices.{inners-few, edges-few}
 use Rattle.gates.proofs.Validity.{partners, signals-few, gates-checked}
 use Rattle.gates.proofs.GateRowLaws.{line-allowed, few-gates, few-letters}
+use Rattle.gates.proofs.LineSteps.{decoded-refused, decoded-gate}
 
 module _ (b : Bytes) where
   abbrev G : ℕ
@@ -180,12 +183,15 @@ module _ (b : Bytes) where
       refuses-12 e = rw (s .all-gates) (stops-12 b at g (s .place) (s .rest) below e)
 
       module _ (v : Line) (five : lineAnswer (readLine gateColumns (lent gateLineBytes b at)) ≡ Five v) where
-        pub refuses-52 : gateLineOk gates letters g v ≡ false → refused (answer 52 (g + 2)) ≡ gateRest b gates 0
-        refuses-52 t = rw (s .all-gates) (stops-52 b at g (s .place) (s .rest) below v five (rw (s .all-gates, s .all-letters) at t))
+        pub refuses-52 : decodeGate gates letters g v ≡ Undecoded → refused (answer 52 (g + 2)) ≡ gateRest b gates 0
+        refuses-52 e =
+            let bad = decoded-refused gates letters g v e in
+            rw (s .all-gates) (stops-52 b at g (s .place) (s .rest) below v five (rw (s .all-gates, s .all-letters) at bad))
 
-        pub takes-gate : gateLineOk gates letters g v ≡ true → SoFarGates gates letters (addGate N (outputAt g) (lineGate v)) (at + gateLineBytes) (g + 1)
-        takes-gate t =
-            let ok : gateLineOk (gateCount b) (letterCount b) g v ≡ true = rw (s .all-gates, s .all-letters) at t in
+        pub takes-gate : (γ : Gate) → decodeGate gates letters g v ≡ Decoded γ → SoFarGates gates letters (addGate N (outputAt g) γ) (at + gateLineBytes) (g + 1)
+        takes-gate γ e =
+            let decoded = decoded-gate gates letters g v γ e in
+            let ok : gateLineOk (gateCount b) (letterCount b) g v ≡ true = rw (s .all-gates, s .all-letters) at (decoded .0) in
             let is = line-is b at g (s .place) v five in
             record {
               first = s .first;
@@ -193,7 +199,7 @@ module _ (b : Bytes) where
               all-letters = s .all-letters;
               few = omega arith;
               place = omega (arith, s .place);
-              built = gate-more b (s .first) g below N (s .built) v is;
+              built = ap (addGate N (outputAt g)) (sym (decoded .1)) ∙ gate-more b (s .first) g below N (s .built) v is;
               passed = more-ok b g (s .passed) (rw is ok);
               rest = goes-on b at g (s .place) (s .rest) below v five ok;
             }

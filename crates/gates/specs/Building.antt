@@ -1,4 +1,4 @@
--- For the code alone: how it builds the record of gates, appending vertices and edges, and what is left to read.
+-- For the code alone: what it decodes a line to, how it builds the record of gates, appending vertices and edges, and what is left to read.
 use Prim.Native.Nat.{ℕ, _+_}
 use mathlib.Core.Bool.{cond}
 use mathlib.Core.List.{List, [], _∷_, _++_}
@@ -9,14 +9,21 @@ use Rattle.net.specs.declared.Edge.{Edge}
 use Rattle.net.specs.declared.Net.{Net}
 use Rattle.net.specs.Limits.{mostVertices, mostEdges}
 use Rattle.net.specs.Graph.{noVertex, noEdge}
+use Rattle.sheet.specs.declared.Line.{Line}
 use Rattle.sheet.specs.declared.Reading.{Reading}
 use Rattle.sheet.specs.Graph.{keyPlace}
 use Rattle.sheet.specs.Record.{readBy}
 use Rattle.sheet.specs.Rows.{row}
 use Rattle.sheet.specs.SheetRows.{placed, inTurn}
 use Rattle.gates.specs.declared.Gate.{Gate}
+use Rattle.gates.specs.declared.GateRead.{GateRead}
+use Rattle.gates.specs.declared.GateRead.the-variants.{Gate as Decoded, Refused}
 use Rattle.gates.specs.Gates.{high, netWith, gateEdges, hasInner, inner, vertexFrom}
-use Rattle.gates.specs.GateRows.{netOfGates, gateLineRows}
+use Rattle.gates.specs.GateRows.{lineGate, gateLineOk, netOfGates, gateLineRows}
+
+-- what the code answers for the line of gate g
+abbrev pub decodeGate : (G L g : ℕ) → Line → GateRead
+decodeGate G L g v = cond (gateLineOk G L g v) (Decoded (lineGate v)) Refused
 
 abbrev pub appendVertex : Net → Vertex → Net
 appendVertex N x = netWith (set (N .vertices) (N .«vertex_count») x) (N .«vertex_count» + 1) (N .edges) (N .«edge_count») (N .«letter_count»)

@@ -21,6 +21,12 @@ impl Gate {
     pub const NOR: u32 = 3;
 }
 
+// What the line of a gate is decoded to: the gate, or a value that is not allowed.
+pub enum GateRead {
+    Gate(Gate),
+    Refused,
+}
+
 // A header, and a line for each gate.
 pub struct GateSheet;
 

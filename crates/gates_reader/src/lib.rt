@@ -7,6 +7,7 @@ ghost use mathlib.Core.Path.{_≡_};
 ghost use mathlib.Core.Bool.{true};
 ghost use Rattle.gates.specs.GateRows.{gateCount, letterCount, firstLineOk, readGates};
 ghost use Rattle.gates.specs.Building.{gateRest};
+use gates::GateRead;
 use gates::GateSheet;
 use sheet::Answer;
 use sheet::LineRead;
@@ -26,11 +27,11 @@ fn read_lines(sheet: &[u8], gates: usize, letters: u8) -> Reading
         else {
             return sheet_readings::refusal(Answer::BAD_LINE, (g + 2) as u16);
         };
-        if !lines::gate_line_ok(gates, letters, g, line) {
+        let GateRead::Gate(gate) = lines::decode_gate(gates, letters, g, line) else {
             return sheet_readings::refusal(Answer::BAD_GATE_LINE, (g + 2) as u16);
-        }
+        };
         let output = GateSheet::FIRST_OUTPUT as usize + g;
-        net = building::add_gate(net, output as u8, lines::gate_of(line));
+        net = building::add_gate(net, output as u8, gate);
         at = end;
         g += 1;
     }

@@ -8,7 +8,9 @@ ghost use Rattle.net.specs.Symbols.{decode, symbolBound, within};
 ghost use Rattle.gates.specs.Limits.{gateLineBytes};
 ghost use Rattle.gates.specs.Gates.{high, firstOutput};
 ghost use Rattle.gates.specs.GateRows.{gateSymbol, gateHeaderOk, lineGate, gateLineOk};
+ghost use Rattle.gates.specs.Building.{decodeGate};
 use gates::Gate;
+use gates::GateRead;
 use gates::GateSheet;
 use net::Net;
 use net::Symbol;
@@ -67,7 +69,7 @@ fn symbol_ok(gates: usize, letters: u8, s: u32) -> bool
 }
 
 // The line of gate g, counted from 0, is 7, type, the output's symbol, symbol and second symbol; an inverter has no second symbol.
-pub(crate) fn gate_line_ok(gates: usize, letters: u8, g: usize, v: Line) -> bool
+fn gate_line_ok(gates: usize, letters: u8, g: usize, v: Line) -> bool
     ensures { λ r. ⌜ r ≡ gateLineOk gates letters g v ⌝ }
 {
     if v.kind != Line::GATE {
@@ -97,7 +99,7 @@ pub(crate) fn gate_line_ok(gates: usize, letters: u8, g: usize, v: Line) -> bool
 }
 
 // The gate of a line.
-pub(crate) fn gate_of(v: Line) -> Gate
+fn gate_of(v: Line) -> Gate
     requires { ⌜ (v .fourth < symbolBound) × (v .fifth < symbolBound) ⌝ }
     ensures { λ r. ⌜ r ≡ lineGate v ⌝ }
 {
@@ -107,4 +109,14 @@ pub(crate) fn gate_of(v: Line) -> Gate
         Gate::NAND => Gate::Nand(v.fourth as u16, v.fifth as u16),
         _ => Gate::Nor(v.fourth as u16, v.fifth as u16),
     }
+}
+
+// What the line of gate g, counted from 0, is decoded to.
+pub(crate) fn decode_gate(gates: usize, letters: u8, g: usize, v: Line) -> GateRead
+    ensures { λ r. ⌜ r ≡ decodeGate gates letters g v ⌝ }
+{
+    if !gate_line_ok(gates, letters, g, v) {
+        return GateRead::Refused;
+    }
+    GateRead::Gate(gate_of(v))
 }

@@ -2,16 +2,14 @@
 use Prim.Native.Nat.{_-_}
 use native.Mathlib.Omega.{arith}
 use mathlib.Core.Path.{_≡_, sym, _∙_}
-use mathlib.Core.Bool.{true}
 use borrow.Author.Needs.{needs}
-use borrow.Author.Tests.{not-true, not-false}
 use Rattle.sheet.specs.declared.LineRead.the-variants.{Five}
 use Rattle.sheet.specs.Line.{readLine, lineAnswer}
 use Rattle.sheet.proofs.ReaderSteps.{lent}
 use Rattle.gates.specs.Limits.{gateColumns, gateLineBytes}
-use Rattle.gates.specs.GateRows.{gateLineOk}
+use Rattle.gates.specs.declared.GateRead.the-variants.{Gate as Decoded}
+use Rattle.gates.specs.Building.{decodeGate}
 use Rattle.gates.proofs.GateRowLaws.{few-gates}
-use Rattle.gates.proofs.LineSteps.{line-range}
 use Rattle.gates.proofs.LoopSteps.{SoFarGates, loop-starts, next-line, few-lines, vertex-room, edge-room, refuses-12, refuses-52, takes-gate, loop-checked, loop-ends}
 use Rattle.gates_reader.proofs.read_lines.Statement.{statement}
 use Rattle.gates_reader.proofs.read_lines.Tie as tie
@@ -22,7 +20,7 @@ Inv-loop sheet gates letters net₀ at₀ g₀ net at g = SoFarGates sheet gates
 abbrev μ-loop : tie.MeasureT-loop
 μ-loop sheet gates letters net₀ at₀ g₀ net at g = gates - g
 
--- places, each from a later one: the start, in the loop, the line read and not five fields, its five numbers, these tested
+-- places, each from a later one: the start, in the loop, the line read and not five fields, its five numbers, the line decoded
 abbrev start : tie.After-outputs Inv-loop μ-loop → tie.Start Inv-loop μ-loop
 start c = c .before .before
 
@@ -35,20 +33,27 @@ not-five c = c .before .before
 abbrev line-read : tie.After-known-told Inv-loop μ-loop → tie.After-read-line Inv-loop μ-loop
 line-read c = c .before .before .before
 
-abbrev numbers : tie.After-gate-line-ok Inv-loop μ-loop → tie.After-known-told Inv-loop μ-loop
+abbrev numbers : tie.After-decode-gate Inv-loop μ-loop → tie.After-known-told Inv-loop μ-loop
 numbers c = c .before
 
-abbrev turn : tie.After-gate-line-ok Inv-loop μ-loop → tie.In-loop Inv-loop μ-loop
+-- and where it is refused, and where it is a gate
+abbrev refused : tie.After-enum-told2 Inv-loop μ-loop → tie.After-decode-gate Inv-loop μ-loop
+refused c = c .before .before
+
+abbrev allowed : tie.After-known-told2 Inv-loop μ-loop → tie.After-decode-gate Inv-loop μ-loop
+allowed c = c .before .before .before
+
+abbrev turn : tie.After-decode-gate Inv-loop μ-loop → tie.In-loop Inv-loop μ-loop
 turn c = in-loop (line-read (numbers c))
 
--- the line is five fields, and where it is allowed
+-- the line is five fields, and what it is decoded to where it is allowed
 five : (c : tie.After-known-told Inv-loop μ-loop) → let t = in-loop (line-read c) in
     lineAnswer (readLine gateColumns (lent gateLineBytes (start (t .before .before) .args .sheet .now) (t .before .loop .at))) ≡ Five (c .before .line .given .0 .0)
 five c = sym (line-read c .read-line .ensures) ∙ c .before .line .given .1
 
-ok : (c : tie.Else1 Inv-loop μ-loop) → let t = turn (c .before) in let a = start (t .before .before) .args in
-    gateLineOk (a .gates) (a .letters) (t .before .loop .g) (numbers (c .before) .before .line .given .0 .0) ≡ true
-ok c = sym (c .before .gate-line-ok .ensures) ∙ not-false _ (c .if1 .left)
+gate-is : (c : tie.After-known-told2 Inv-loop μ-loop) → let t = turn (allowed c) in let a = start (t .before .before) .args in
+    decodeGate (a .gates) (a .letters) (t .before .loop .g) (numbers (allowed c) .before .line .given .0 .0) ≡ Decoded (c .before .gate .given .0 .0)
+gate-is c = sym (allowed c .decode-gate .ensures) ∙ c .before .gate .given .1
 
 outputs-requires : tie.Need-outputs-requires Inv-loop μ-loop
 outputs-requires c κs = let p = c .before .pre in rw (p .1) (few-gates _ (p .0))
@@ -92,40 +97,43 @@ returns c =
     let t = in-loop read in
     c .refusal .ensures ∙ refuses-12 _ (t .before .loop .inv) (t .loop-test .taken) (sym (read .read-line .ensures) ∙ c .before .enum-told .given .1)
 
-gate-line-ok-requires : tie.Need-gate-line-ok-requires Inv-loop μ-loop
-gate-line-ok-requires c κs = search needs
+decode-gate-requires : tie.Need-decode-gate-requires Inv-loop μ-loop
+decode-gate-requires c κs = search needs
+
+enum-known-gate : tie.Need-enum-known-gate Inv-loop μ-loop
+enum-known-gate c = search needs
+
+enum-told-2 : tie.Need-enum-told-2 Inv-loop μ-loop
+enum-told-2 c = search needs
 
 add-refusal-2 : tie.Need-add-refusal-2 Inv-loop μ-loop
-add-refusal-2 c = let t = turn (c .before) in omega (arith, few-lines _ (t .before .loop .inv), t .loop-test .taken)
+add-refusal-2 c = let t = turn (refused c) in omega (arith, few-lines _ (t .before .loop .inv), t .loop-test .taken)
 
 cast-refusal-2 : tie.Need-cast-refusal-2 Inv-loop μ-loop
-cast-refusal-2 c = let t = turn (c .before) in omega (arith, few-lines _ (t .before .loop .inv), t .loop-test .taken)
+cast-refusal-2 c = let t = turn (refused c) in omega (arith, few-lines _ (t .before .loop .inv), t .loop-test .taken)
 
 refusal-requires-2 : tie.Need-refusal-requires-2 Inv-loop μ-loop
 refusal-requires-2 c κs = search needs
 
 returns-2 : tie.Need-returns-2 Inv-loop μ-loop
 returns-2 c =
-    let tested = c .before .before in
-    let t = turn tested in
+    let decoded = refused (c .before) in
+    let t = turn decoded in
     c .refusal2 .ensures
-    ∙ refuses-52 _ (t .before .loop .inv) (t .loop-test .taken) _ (five (numbers tested)) (sym (tested .gate-line-ok .ensures) ∙ not-true _ (c .before .if1 .taken))
+    ∙ refuses-52 _ (t .before .loop .inv) (t .loop-test .taken) _ (five (numbers decoded)) (sym (decoded .decode-gate .ensures) ∙ c .before .enum-told2 .given .1)
 
 cast-output : tie.Need-cast-output Inv-loop μ-loop
 cast-output c = search needs
 
 add-output : tie.Need-add-output Inv-loop μ-loop
-add-output c = let t = turn (c .before) in omega (arith, few-lines _ (t .before .loop .inv), t .loop-test .taken)
+add-output c = let t = turn (allowed c) in omega (arith, few-lines _ (t .before .loop .inv), t .loop-test .taken)
 
 cast-add-gate : tie.Need-cast-add-gate Inv-loop μ-loop
-cast-add-gate c = let t = turn (c .before) in omega (arith, few-lines _ (t .before .loop .inv), t .loop-test .taken)
-
-gate-of-requires : tie.Need-gate-of-requires Inv-loop μ-loop
-gate-of-requires c κs = line-range _ _ _ _ (ok c)
+cast-add-gate c = let t = turn (allowed c) in omega (arith, few-lines _ (t .before .loop .inv), t .loop-test .taken)
 
 add-gate-requires : tie.Need-add-gate-requires Inv-loop μ-loop
 add-gate-requires c κs =
-    let t = turn (c .before .before) in
+    let t = turn (allowed c) in
     (vertex-room _ (t .before .loop .inv) (t .loop-test .taken), edge-room _ (t .before .loop .inv) (t .loop-test .taken))
 
 add-g : tie.Need-add-g Inv-loop μ-loop
@@ -136,10 +144,9 @@ loop-less c = search needs
 
 loop-again : tie.Need-loop-again Inv-loop μ-loop
 loop-again c =
-    let allowed = c .before .before in
-    let t = turn (allowed .before) in
-    rw (c .add-gate .ensures, c .before .gate-of .ensures)
-    (takes-gate _ (t .before .loop .inv) (t .loop-test .taken) _ (five (numbers (allowed .before))) (ok allowed))
+    let decoded = allowed (c .before) in
+    let t = turn decoded in
+    rw (c .add-gate .ensures) (takes-gate _ (t .before .loop .inv) (t .loop-test .taken) _ (five (numbers decoded)) _ (gate-is (c .before)))
 
 concluded-requires : tie.Need-concluded-requires Inv-loop μ-loop
 concluded-requires c κs = loop-checked _ (c .before .loop .inv) (c .loop-test .left)
@@ -166,7 +173,9 @@ read-lines-spec =
     cast-refusal
     refusal-requires
     returns
-    gate-line-ok-requires
+    decode-gate-requires
+    enum-known-gate
+    enum-told-2
     add-refusal-2
     cast-refusal-2
     refusal-requires-2
@@ -174,7 +183,6 @@ read-lines-spec =
     cast-output
     add-output
     cast-add-gate
-    gate-of-requires
     add-gate-requires
     add-g
     loop-less
