@@ -5,13 +5,10 @@ use native.Mathlib.Omega.{arith}
 use mathlib.Core.Path.{_≡_, refl, sym, ap, _∙_}
 use mathlib.Core.Bool.{Bool, true, false, cond}
 use mathlib.Core.List.{List, [], _∷_, _++_, append-nil}
-use lib.Dec.{ltb}
 use lib.ListN.{length, getD, set, length-append, List·getD-append}
 use lib.Seq.{getD-append-seam, append-snoc}
-use borrow.Author.Tests.{ltb-true}
 use Rattle.ternary.proofs.Tests.{by-test}
 use Rattle.ternary.specs.Lists.{countBelow}
-use Rattle.ternary.proofs.ListLaws.{table-ext}
 use Rattle.net.specs.declared.Vertex.{Vertex}
 use Rattle.net.specs.declared.Edge.{Edge}
 use Rattle.net.specs.declared.Net.{Net}
@@ -19,17 +16,13 @@ use Rattle.net.specs.Limits.{mostVertices, mostEdges}
 use Rattle.net.specs.Graph.{noVertex, noEdge}
 use Rattle.sheet.specs.Record.{startNet}
 use Rattle.sheet.specs.SheetRows.{placed}
-use Rattle.sheet.proofs.PlacedLaws.{placed-none, placed-more}
+use Rattle.sheet.proofs.PlacedLaws.{placed-none, placed-more, placed-ext}
 use Rattle.gates.specs.declared.Gate.{Gate}
 use Rattle.gates.specs.declared.Gate.the-variants.{Inverter, Nand, Nor}
 use Rattle.gates.specs.Limits.{mostGates}
 use Rattle.gates.specs.Gates.{netWith, edge, gateEdges, hasInner, inner, output, rail, outputAt, innersBefore, innerAt, edgesBefore, vertexFrom, netOfFirst, verticesBefore}
 use Rattle.gates.specs.Building.{appendVertex, appendEdge, appendEdges, addGate, outputsOf}
 use Rattle.gates.proofs.Vertices.{few-edges, inners-few, edges-few, vertex-output, vertex-inner}
-
-placed-ext : {A : Type 0} (n k : ℕ) (f g : ℕ → A) (z : A) → ((i : ℕ) → i < k → f i ≡ g i) → placed n k f z ≡ placed n k g z
-unfolding placed
-placed-ext n k f g z h = table-ext n _ _ (λ i b. by-test (ltb i k) (λ t. rw t (h i (ltb-true i k t))) (λ t. rw t))
 
 -- the record with these edges
 abbrev edged : Net → List Edge → Net

@@ -1,9 +1,9 @@
 -- The net of gates whose symbols are allowed: its edges' symbols are known, its key nodes are outputs, and C1, C2 and C3 hold.
-use Prim.Native.Nat.{ℕ, zero, suc, _+_, _-_, _<_, _≤_}
+use Prim.Native.Nat.{ℕ, _+_, _-_, _<_, _≤_}
 use native.Mathlib.Omega.{arith}
 use mathlib.Core.Path.{_≡_, refl}
 use mathlib.Core.Logic.{_⊎_, inl, inr}
-use mathlib.Core.Bool.{true, false≢true}
+use mathlib.Core.Bool.{true}
 use lib.Dec.{eqb}
 use borrow.Author.Tests.{eqb-true}
 use Rattle.ternary.proofs.Tests.{ands, or-right}
@@ -19,7 +19,7 @@ use Rattle.net.specs.Known.{knownSymbol}
 use Rattle.net.specs.Excitation.{excitation}
 use Rattle.net.specs.WellFormed.{C1, C2, C3, WellFormed}
 use Rattle.net.proofs.Cases.{decode-vertex}
-use Rattle.net.proofs.Classes.{storage-range}
+use Rattle.net.proofs.Classes.{storage-low, storage-range}
 use Rattle.net.proofs.Keys.{key-at}
 use Rattle.net.proofs.Values.{within-low, within-high}
 use Rattle.gates.specs.declared.Gate.{Gate}
@@ -69,18 +69,13 @@ module _ (G : ℕ) (gate : ℕ → Gate) (L : ℕ) (few : G ≤ mostGates) (allo
 
   -- ---- key nodes are outputs
 
-  storage-low : (v : ℕ) → isStorage N v ≡ true → 1 ≤ v
-  unfolding isStorage hasRole
-  storage-low zero s = absurd (false≢true s)
-  storage-low (suc v) s = omega arith
-
   pub key-gate : (v : ℕ) → isKey N v ≡ true → (g : ℕ) × (g < G) × (outputAt g ≡ v)
   unfolding isKey netOfFirst
   key-gate v t =
       let r = any-found (λ i. eqb ((edgeAt N i) .symbol) (vertexBase + v)) (N .«edge_count») (search ands) in
       let s : (edgeAt N (r .0)) .symbol ≡ vertexBase + v = eqb-true _ _ (r .2) in
       let top = storage-range N v (search ands) in
-      let low : 1 ≤ v = storage-low v (search ands) in
+      let low : 1 ≤ v = storage-low N v (search ands) in
       let d : Vertex (vertexBase + v - vertexBase) ≡ decode (vertexBase + v) = decode-vertex (vertexBase + v) (omega arith) (omega (arith, top, vertices-few G gate L few)) in
       let back : vertexBase + v - vertexBase ≡ v = omega arith in
       let w : within firstOutput (high + G) (vertexBase + v - vertexBase) ≡ true = rw (s, ← d) at (symbol-allowed (r .0) (r .1)) in

@@ -2,28 +2,21 @@
 -- is needed.
 use mathlib.Core.Path.{_≡_, refl, sym, ap, subst, _∙_}
 use mathlib.Core.Bool.{Bool, true, false, _&&_}
-use mathlib.Core.Logic.{_⊎_, inl, inr, _≢_}
+use mathlib.Core.Logic.{_⊎_, inl, inr, _≢_, ⊎-elim}
 use mathlib.Core.List.{List, [], _∷_, map}
-use Prim.Native.Nat.{ℕ, zero, suc, _<_}
-use native.Mathlib.Nat.{not-suc-le-zero, le-of-suc-le-suc}
+use Prim.Native.Nat.{ℕ, zero, suc, _<_, _≤_}
+use native.Mathlib.Nat.{not-suc-le-zero}
 use native.Mathlib.Omega.{arith}
 use lib.Dec.{eqb}
 use lib.ListN.{length, getD, take, length-map}
 use lib.Seq.{getD-take}
-use borrow.Author.Tests.{eqb-true, eq-eqb, ne-eqb, leb-true}
+use borrow.Author.Tests.{eqb-true, eq-eqb, ne-eqb, leb-true, ltb-true}
 use Rattle.net.specs.declared.Net.{Net}
 use Rattle.net.specs.Graph.{edgeAt, hasRole, isStorage}
 use Rattle.net.specs.Walks.{Joins}
 use Rattle.net.specs.Classes.{relabel, merge, classes, inner, labels}
 use Rattle.ternary.proofs.Tests.{ands, or-true, test}
-use Rattle.ternary.proofs.ListLaws.{length-table, getD-table, below-cases}
-
--- lists
-
-pub getD-map-lt : (f : ℕ → ℕ) (l : List ℕ) (i : ℕ) → i < length l → getD (map f l) i 0 ≡ f (getD l i 0)
-getD-map-lt f [] i h = absurd (not-suc-le-zero h)
-getD-map-lt f (x ∷ xs) zero h = refl
-getD-map-lt f (x ∷ xs) (suc i) h = getD-map-lt f xs i (le-of-suc-le-suc h)
+use Rattle.ternary.proofs.ListLaws.{length-table, getD-table, getD-map-lt, below-cases}
 
 -- relabelling
 
@@ -59,6 +52,14 @@ take-merge m u v t hu hv = rw (getD-take m t u 0 hu, getD-take m t v 0 hv) (take
 pub role-range : (N : Net) (v r : ℕ) → hasRole N v r ≡ true → v < suc (N .«vertex_count»)
 unfolding hasRole
 role-range N v r e = let h = leb-true v (N .«vertex_count») (search ands) in omega arith
+
+role-low : (N : Net) (v r : ℕ) → hasRole N v r ≡ true → 1 ≤ v
+unfolding hasRole
+role-low N v r e = ltb-true 0 v (search ands)
+
+pub storage-low : (N : Net) (v : ℕ) → isStorage N v ≡ true → 1 ≤ v
+unfolding isStorage
+storage-low N v e = ⊎-elim (role-low N v 1) (role-low N v 2) (or-true (hasRole N v 1) (hasRole N v 2) e)
 
 pub storage-range : (N : Net) (v : ℕ) → isStorage N v ≡ true → v < suc (N .«vertex_count»)
 unfolding isStorage
@@ -105,7 +106,7 @@ module _ (N : Net) (on : ℕ → Bool) where
   -- merged: the class of the second end takes the first end's label
   merged : (n v : ℕ) → Inner n → InRange v → label (suc n) v ≡ relabel (label n ((edgeAt N n) .end1)) (label n ((edgeAt N n) .end2)) (label n v)
   unfolding labels classes merge
-  merged n v i h = rw i (getD-map-lt _ (labels N on n) v (rw length-labels h))
+  merged n v i h = rw i (getD-map-lt _ (labels N on n) v 0 0 (rw length-labels h))
 
   kept : (n v : ℕ) → (on n && inner N (edgeAt N n)) ≡ false → label (suc n) v ≡ label n v
   unfolding labels classes

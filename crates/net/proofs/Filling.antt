@@ -7,11 +7,10 @@ use native.Mathlib.Omega.{arith}
 use lib.ListN.{length, take, getD, set, length-set, replicate, length-replicate, getD-replicate, length-map, List·getD-eq-default}
 use lib.Seq.{getD-set-same, getD-set-other, ext-getD}
 use Rattle.ternary.specs.Lists.{table}
-use Rattle.ternary.proofs.ListLaws.{below-cases, length-table, getD-table}
+use Rattle.ternary.proofs.ListLaws.{below-cases, length-table, getD-table, getD-map-lt}
 use Rattle.ternary.proofs.Tests.{by-test}
 use lib.Dec.{ltb}
 use borrow.Author.Tests.{ltb-true, ltb-false}
-use Rattle.net.proofs.Classes.{getD-map-lt}
 
 -- r has n entries: f gives those before i, and g the others
 pub record Filled (n : ℕ) (f g : ℕ → ℕ) (r : List ℕ) (i : ℕ) : Type 0 where
@@ -81,4 +80,4 @@ fill-all m h = fill-end m (λ j a b. absurd (omega arith))
 pub fill-map : (h : ℕ → ℕ) (t : List ℕ) {n : ℕ} {g : ℕ → ℕ} {r : List ℕ} {i : ℕ} → Filled n (λ j. h (getD t j 0)) g r i → n ≤ i → length t ≡ n → r ≡ map h t
 fill-map h t {n} {g} {r} m l e =
     ext-getD 0 r (map h t) (m .size ∙ sym e ∙ sym (length-map t h))
-    (λ j k. m .stored j (omega (arith, m .size)) ∙ sym (getD-map-lt h t j (omega (arith, m .size))))
+    (λ j k. m .stored j (omega (arith, m .size)) ∙ sym (getD-map-lt h t j 0 0 (omega (arith, m .size))))

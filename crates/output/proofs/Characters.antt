@@ -10,8 +10,8 @@ use lib.ListN.{length, take, drop, replicate, length-drop, getD-replicate}
 use lib.Seq.{take-at, drop-at, take-all, drop-drop, getD-take, length-take-le}
 use borrow.Author.Tests.{ne-eqb}
 use Rattle.ternary.specs.Signal.{Against, at}
+use Rattle.ternary.proofs.ListLaws.{getD-map-lt}
 use Rattle.ternary.proofs.Tests.{by-test}
-use Rattle.net.proofs.Classes.{getD-map-lt}
 use Rattle.sheet.specs.Limits.{fieldWidth, blank, digitZero, lineEnd}
 use Rattle.sheet.specs.Line.{writeNumber}
 use Rattle.output.specs.Limits.{fourFields, letterX, hyphen}
@@ -68,7 +68,7 @@ pub vector-entry : (h number : ℕ) (vector : List ℕ) → h ≤ length vector 
 unfolding vectorText
 vector-entry h number vector fits k inside =
     by-test (eqb number 0)
-    (λ e. rw (e, getD-map-lt character (take h vector) k (rw (length-take-le h vector fits) inside), getD-take h vector k 0 inside))
+    (λ e. rw (e, getD-map-lt character (take h vector) k 0 0 (rw (length-take-le h vector fits) inside), getD-take h vector k 0 inside))
     (λ e. rw e (getD-replicate h k hyphen 0 inside))
 
 pub vector-at : (h : ℕ) (vector : List ℕ) (k : ℕ) → k < h → h ≤ length vector → at (vectorText h 0 vector) k ≡ character (at vector k)

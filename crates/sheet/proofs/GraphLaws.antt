@@ -2,18 +2,18 @@
 use Prim.Native.Nat.{ℕ, suc, _+_, _≤_, _<_}
 use native.Mathlib.Omega.{arith}
 use mathlib.Core.Path.{_≡_, ap}
-use mathlib.Core.Logic.{⊎-elim, _↔_}
+use mathlib.Core.Logic.{_↔_}
 use mathlib.Core.Bool.{true}
 use mathlib.Core.Option.{none, some, Option·map, map-eq-none-iff, map-eq-some-iff}
 use borrow.Author.Tests.{ltb-true, lt-ltb}
 use Rattle.net.specs.declared.Net.{Net}
 use Rattle.net.specs.Limits.{mostKeyNodes, mostSignals}
-use Rattle.net.specs.Graph.{hasRole, isStorage, keys, keyCount, keyVertex}
+use Rattle.net.specs.Graph.{isStorage, keys, keyCount, keyVertex}
 use Rattle.net.specs.SignalTable.{signalCount}
-use Rattle.net.proofs.Classes.{storage-range}
+use Rattle.net.proofs.Classes.{storage-low, storage-range}
 use Rattle.net.proofs.Keys.{key-at, key-storage}
 use Rattle.ternary.specs.Lists.{leastBelow}
-use Rattle.ternary.proofs.Tests.{ands, both, or-true, fails, not-both}
+use Rattle.ternary.proofs.Tests.{ands, both, fails, not-both}
 use Rattle.ternary.proofs.ListLaws.{least-none, least-some, least-none-iff, least-some-iff}
 use Rattle.sheet.specs.declared.Found.the-variants.{At, Nothing}
 use Rattle.sheet.specs.Rows.{answer, firstRow, answered, NoRow}
@@ -121,21 +121,13 @@ module _ (N : Net) where
       there : NoRow (graphRows N) → NoGraphRow
       there (next p (next k (next s end))) = record { partner = p; key = k; signal = s }
 
-  role-low : (y r : ℕ) → hasRole N y r ≡ true → 1 ≤ y
-  unfolding hasRole
-  role-low y r e = ltb-true 0 y (search ands)
-
-  storage-low : (y : ℕ) → isStorage N y ≡ true → 1 ≤ y
-  unfolding isStorage
-  storage-low y e = ⊎-elim (role-low y 1) (role-low y 2) (or-true (hasRole N y 1) (hasRole N y 2) e)
-
   -- places of 22 and 23 are vertices
   pub record VertexPlace (y : ℕ) : Type 0 where
     pub low : 1 ≤ y
     pub high : y ≤ N .«vertex_count»
 
   storage-place : (y : ℕ) → isStorage N y ≡ true → VertexPlace y
-  storage-place y e = record { low = storage-low y e; high = omega (arith, storage-range N y e) }
+  storage-place y e = record { low = storage-low N y e; high = omega (arith, storage-range N y e) }
 
   pub key-vertex : (place : ℕ) → keyPlace N ≡ some place → VertexPlace place
   key-vertex place e =

@@ -8,7 +8,7 @@ use lib.ListN.{length, take, set, replicate, getD, length-set, length-replicate,
 use lib.Seq.{ext-getD, getD-set-same, getD-set-other, getD-take, length-take-le}
 use borrow.Author.Tests.{ltb-true, lt-ltb, le-ltb, eqb-true, eqb-false}
 use Rattle.ternary.specs.Lists.{table}
-use Rattle.ternary.proofs.ListLaws.{length-table, getD-table}
+use Rattle.ternary.proofs.ListLaws.{length-table, getD-table, table-ext}
 use Rattle.ternary.proofs.Tests.{by-test, same-test}
 use Rattle.sheet.specs.SheetRows.{placed}
 
@@ -55,3 +55,8 @@ module _ {A : Type 0} (n : ℕ) (f : ℕ → A) (z : A) where
       (λ i b.
       let low : i < k = omega (arith, size) in
       getD-take k (placed n k f z) i z low ∙ placed-at k i (omega arith) ∙ rw (lt-ltb i k low) (sym (getD-table k f i z low)))
+
+-- the places in use decide
+pub placed-ext : {A : Type 0} (n k : ℕ) (f g : ℕ → A) (z : A) → ((i : ℕ) → i < k → f i ≡ g i) → placed n k f z ≡ placed n k g z
+unfolding placed
+placed-ext n k f g z h = table-ext n _ _ (λ i b. by-test (ltb i k) (λ t. rw t (h i (ltb-true i k t))) (λ t. rw t))

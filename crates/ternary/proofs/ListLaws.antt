@@ -3,7 +3,7 @@ use Prim.Native.Nat.{ℕ, zero, suc, _+_, _<_, _≤_}
 use mathlib.Core.Path.{_≡_, refl, sym, ap, ap₂, subst, _∙_}
 use mathlib.Core.Bool.{Bool, true, false, cond, _||_, true≢false, false≢true}
 use mathlib.Core.Logic.{_⊎_, inl, inr, ⊎-elim, _↔_, _≢_}
-use mathlib.Core.List.{List, [], _∷_, _++_, List·Memᴰ, List·Memᴰ·head, List·Memᴰ·not-nil, List·Memᴰ·append-cases, List·Memᴰ·eq-of-singleton, Memᴰ·append-left, Memᴰ·append-right}
+use mathlib.Core.List.{List, [], _∷_, _++_, map, List·Memᴰ, List·Memᴰ·head, List·Memᴰ·not-nil, List·Memᴰ·append-cases, List·Memᴰ·eq-of-singleton, Memᴰ·append-left, Memᴰ·append-right}
 use mathlib.Core.Option.{Option, none, some}
 use native.Mathlib.Nat.{not-suc-le-zero, le-of-suc-le-suc}
 use native.Mathlib.Numerals.{add-one}
@@ -38,13 +38,19 @@ getD-table zero f k d l = absurd (not-suc-le-zero l)
 getD-table (suc n) f zero d l = refl
 getD-table (suc n) f (suc k) d l = getD-table n (λ j. f (suc j)) k d (le-of-suc-le-suc l)
 
--- tables of functions that agree below the bound
 -- an entry is the same by any default
 pub getD-inside : {A : Type 0} (l : List A) (k : ℕ) (d e : A) → k < length l → getD l k d ≡ getD l k e
 getD-inside [] k d e h = absurd (not-suc-le-zero h)
 getD-inside (x ∷ l) zero d e h = refl
 getD-inside (x ∷ l) (suc k) d e h = getD-inside l k d e (omega arith)
 
+-- an entry of a mapped list is that of the list, mapped
+pub getD-map-lt : {A B : Type 0} (f : A → B) (l : List A) (i : ℕ) (d : A) (e : B) → i < length l → getD (map f l) i e ≡ f (getD l i d)
+getD-map-lt f [] i d e h = absurd (not-suc-le-zero h)
+getD-map-lt f (x ∷ l) zero d e h = refl
+getD-map-lt f (x ∷ l) (suc i) d e h = getD-map-lt f l i d e (le-of-suc-le-suc h)
+
+-- tables of functions that agree below the bound
 pub table-ext : {A : Type 0} (n : ℕ) (f g : ℕ → A) → ((k : ℕ) → k < n → f k ≡ g k) → table n f ≡ table n g
 unfolding table
 table-ext zero f g e = refl
