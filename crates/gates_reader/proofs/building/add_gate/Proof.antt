@@ -6,12 +6,18 @@ use Rattle.gates.proofs.BuildLaws.{inverter-added, nand-added, nor-added}
 use Rattle.gates_reader.proofs.building.add_gate.Statement.{statement}
 use Rattle.gates_reader.proofs.building.add_gate.Tie as tie
 
--- where the inner vertex is appended, from where all edges are made
-abbrev nand-inner : tie.After-n-edge3 → tie.After-append-vertex
-nand-inner c = c .before .before .before .before
+-- places, each from a later one: the inner vertex appended, the p edges made; of a NAND, then of a NOR
+abbrev nand-inner : tie.After-p-edge3 → tie.After-append-vertex
+nand-inner c = c .before .before
 
-abbrev nor-inner : tie.After-n-edge5 → tie.After-append-vertex2
-nor-inner c = c .before .before .before .before
+abbrev nand-p-edges : tie.After-n-edge3 → tie.After-p-edge3
+nand-p-edges c = c .before .before
+
+abbrev nor-inner : tie.After-p-edge5 → tie.After-append-vertex2
+nor-inner c = c .before .before
+
+abbrev nor-p-edges : tie.After-n-edge5 → tie.After-p-edge5
+nor-p-edges c = c .before .before
 
 add-inner : tie.Need-add-inner
 add-inner c = search needs
@@ -47,7 +53,7 @@ n-edge-requires-3 : tie.Need-n-edge-requires-3
 n-edge-requires-3 c κs = search needs
 
 four-edges-requires : tie.Need-four-edges-requires
-four-edges-requires c κs = rw (nand-inner c .append-vertex .ensures) (omega arith)
+four-edges-requires c κs = rw (nand-inner (nand-p-edges c) .append-vertex .ensures) (omega arith)
 
 enum-known-gate-3 : tie.Need-enum-known-gate-3
 enum-known-gate-3 c = search needs
@@ -68,7 +74,7 @@ n-edge-requires-5 : tie.Need-n-edge-requires-5
 n-edge-requires-5 c κs = search needs
 
 four-edges-requires-2 : tie.Need-four-edges-requires-2
-four-edges-requires-2 c κs = rw (nor-inner c .append-vertex2 .ensures) (omega arith)
+four-edges-requires-2 c κs = rw (nor-inner (nor-p-edges c) .append-vertex2 .ensures) (omega arith)
 
 returns : tie.Need-returns
 returns c =
