@@ -1,7 +1,8 @@
 #!/usr/bin/env python3
-"""Cases for the verdict, for the number of key nodes and for the excitation of one vertex, with the answers that document 01 and the report ask for.
+"""Cases for the verdict, for the number of key nodes and for the excitation of one vertex, with the answers that documents 01 and 02 and the report ask for.
 
-Each case has a note: the report's row or sentence, or document 01's, that its answer follows from. Running this file writes the input and the
+Each case has a note: the report's row or sentence, or a document's, that its answer follows from. Where the report says 2 of a vertex connected to both
+values, document 02, C-15, has 5. Running this file writes the input and the
 expected output of the test program `verdict_cases`. The expected answers are worked out here by hand; settle_model.py then works each of them out from
 the definitions, except the verdict on a net that has too many states for it, and a difference stops the run. None is taken from the program.
 
@@ -68,9 +69,9 @@ net("the NOR gate with y as an output too", sheet(2, [ZERO, ONE, OUTPUT, OUTPUT]
 verdict(33, 4, "y is 2 at a 0 b 1; with no key node every state is stable")
 net("figure 7.1(a): the NOR gate with its n edge under a always closed",
     sheet(2, [ZERO, ONE, OUTPUT, STORAGE], GATE[:2] + [(3, 1, N, 1)] + GATE[3:]))
-excitation(0, 2, "section 7: for a = b = 0 the excitation of z is 2", 0, 0, 3)
-state("--22", "the same with y, which is joined to z by a closed edge", 0)
-verdict(32, 0, "at a = b = 0 z is joined to 1 and to 0: a fight, and 32 comes before the 33 of z")
+excitation(0, 5, "section 7: for a = b = 0 the excitation of z is 2, from connections to both values: by C-15 5", 0, 0, 3)
+state("--55", "the same with y, which is joined to z by a closed edge", 0)
+verdict(32, 0, "at a = b = 0 z is joined to 1 and to 0: a fight, and 32 comes before the 33 of z at 5")
 net("figure 7.1(b): the NOR gate with its p edge under a always open",
     sheet(2, [ZERO, ONE, OUTPUT, STORAGE], GATE[:1] + [(4, 3, P, 1)] + GATE[2:]))
 excitation(0, 3, "section 7: for a = b = 0 z floats", 0, 0, 3)
@@ -104,11 +105,11 @@ net("the NOR latch with y1 and y2 as outputs", sheet(2, STORED[:4] + [OUTPUT, OU
 verdict(33, 5, "row 5 has both at 2: the lower one is named")
 net("the NOR latch, and vertex 7 joined to 0 under Q and to 1 under Q bar", sheet(
     2, STORED + [STORAGE], LATCH + [(1, 7, N, vertex(4)), (7, 2, N, vertex(3))]))
-state("--00112", "S 0 R 0, both at 1: vertex 7 is joined to 0 and to 1, a fight; not stable", 0, 3)
+state("--00115", "S 0 R 0, both at 1: vertex 7 is joined to 0 and to 1, a fight; not stable", 0, 3)
 verdict(0, 0, "C2 is about stable states, and no row of example 3.1 has Q bar 1 and Q 1")
 net("the NOR latch, and vertex 7 joined to 0 under Q hat and to 1 under Q bar hat", sheet(
     2, STORED + [STORAGE], LATCH + [(1, 7, P, vertex(4)), (7, 2, P, vertex(3))]))
-state("--00222", "row 5, stable: vertex 7 is joined to 0 and to 1", 3, 0)
+state("--00225", "row 5, stable: vertex 7 is joined to 0 and to 1, weakly to 0; y1 and y2 stay at 2", 3, 0)
 verdict(32, 0, "row 5 has Q bar 0 and Q 0: a fight in a stable state")
 net("the NOR latch, and an edge under Q from the 0-vertex to the 1-vertex", sheet(2, STORED, LATCH + [(1, 2, N, vertex(4))]))
 verdict(32, 0, "row 1 has Q 1: one edge can be a fight")
@@ -189,8 +190,8 @@ state("--01001", "example 4.3: a 1 b 1, two are 1, z2", 3)
 verdict(0, 0, "example 4.3: well formed")
 
 net("figure 4.4: letter a, y1 3, y2 4, y3 5, y4 6", TEMPORARY_FIGHT)
-state("--0020", "example 4.4: a 1, y1 y2 y3 101, the excitation of y3 is 2, not stable", 1, 5)
-state("--0120", "example 4.4: y1 has gone to 0, 001, y3 is still at 2, not stable", 1, 4)
+state("--0050", "example 4.4: a 1, y1 y2 y3 101, the excitation of y3 is 2, for a fight: 5; not stable", 1, 5)
+state("--0150", "example 4.4: y1 has gone to 0, 001, the fight at y3 goes on, not stable", 1, 4)
 state("--0100", "example 4.4: y2 has gone to 1, 011, the fight is over and y3 goes to 0, not stable", 1, 6)
 state("--0101", "example 4.4: the state at which a 1 ends, y1 y2 y3 y4 0101, stable", 1, 2)
 state("--1131", "a 0, y1 y2 y3 010: both edges of y3 are open, not stable", 0, 2)
@@ -232,11 +233,11 @@ verdict(0, 0, "gates of the complementary design: proposition 3.3")
 
 net("key node 1 with a p edge always closed to the 1-vertex 2, and a p edge under itself to the 0-vertex 3",
     sheet(0, [STORAGE, ONE, ZERO], [(1, 2, P, 0), (1, 3, P, vertex(1))]))
-state("2--", "key 0: joined to 1 and, weakly, to 0: 2, though it has a p-path to 1 and no n-path to 0, not stable", 0, 0)
+state("5--", "key 0: joined to 1 and, weakly, to 0: 5, though it has a p-path to 1 and no n-path to 0, not stable", 0, 0)
 state("1--", "key 1: a p-connection to 1 alone, stable", 0, 1)
 verdict(31, 1, "f0 is the complement of f1 here, yet C1 is broken: n-paths and p-paths alone do not decide it")
 
-# Document 01: the worked net, the forms, the four values.
+# Document 01: the worked net, the forms, the values; those of a fight by document 02, C-15.
 
 net("document 01's net of the program `settle`: letter a, key node 3 = (a y)', inner vertex 4", WORKED)
 state("--10", "a 0 with 1: stable, job 2 starts there", 0, 1)
@@ -263,21 +264,69 @@ excitation(0, 2, "n to 1: a path of n edges is no firm 1", 0, 0, 5)
 excitation(0, 1, "p to 1: 1", 0, 0, 6)
 excitation(0, 0, "n and p to 0: one n-connection is enough", 0, 0, 7)
 excitation(0, 1, "n and p to 1: one p-connection is enough", 0, 0, 8)
-excitation(0, 2, "n to 0 and p to 1: connections to both", 0, 0, 9)
-excitation(0, 2, "p to 0 and n to 1: connections to both, none firm", 0, 0, 10)
+excitation(0, 5, "n to 0 and p to 1: connections to both, both firm", 0, 0, 9)
+excitation(0, 5, "p to 0 and n to 1: connections to both, both weak", 0, 0, 10)
 excitation(0, 2, "n and then p to 1: mixed", 0, 0, 11)
 excitation(0, 3, "joined only to a storage vertex that is joined to nothing", 0, 0, 13)
 excitation(0, 3, "a form 0 edge under 0 and a form 1 edge under 1 are open", 0, 0, 15)
 excitation(0, 1, "n and p side by side and then p to 1: there is a p-connection", 0, 0, 16)
 excitation(0, 2, "p and then n to 0: mixed", 0, 0, 18)
-state("--02210122213331120", "all of them", 0)
+state("--02210155213331120", "all of them", 0)
 verdict(32, 0, "vertices 9 and 10 carry fights; no output, no key node")
 
-# C2: fights.
+# C-15: a fight is told from a weak drive.
 
 PAIR = [ZERO, ONE]
 PULLED = [ZERO, ONE, STORAGE]
 UP = [(2, 3, P, 0)]
+
+MIXED = [(3, 1, N, 1), (3, 2, N, 1), (4, 1, P, 0), (4, 2, P, 0), (5, 1, P, 0), (5, 6, N, 1), (6, 2, P, 0), (7, 8, P, 0), (8, 1, N, 1), (7, 9, N, 1), (9, 2, P, 0),
+         (10, 11, N, 1), (11, 1, N, 1), (11, 2, P, 0), (12, 1, P, 0), (13, 2, N, 1), (14, 12, N, 1)]
+
+net("constant edges: one value or both, each firm or weak", sheet(0, [ZERO, ONE] + [STORAGE] * 12, MIXED))
+excitation(0, 5, "a firm 0 and a weak 1: connected to both values, so no 0", 0, 0, 3)
+excitation(0, 5, "a weak 0 and a firm 1: connected to both values, so no 1", 0, 0, 4)
+excitation(0, 5, "a weak 0, and a 1 through vertex 6 by edges of both types", 0, 0, 5)
+excitation(0, 5, "vertex 6 has a firm 1, and through vertex 5 a weak 0", 0, 0, 6)
+excitation(0, 5, "mixed paths to both values, through vertices 8 and 9", 0, 0, 7)
+excitation(0, 5, "a fight only through inner vertex 11: no edge joins vertex 10 to an input vertex", 0, 0, 10)
+excitation(0, 5, "the inner vertex itself", 0, 0, 11)
+excitation(0, 2, "a weak 0 alone stays 2", 0, 0, 12)
+excitation(0, 2, "a weak 1 alone stays 2", 0, 0, 13)
+excitation(0, 2, "a path of both types to 0 stays 2", 0, 0, 14)
+state("--555555555222", "all of them", 0)
+verdict(32, 0, "with no key node the one state is stable, and it has fights")
+
+net("output 3 between vertices that carry a and b", sheet(2, [carries(1), carries(2), OUTPUT], [(3, 1, N, 1), (3, 1, P, 0), (3, 2, N, 1), (3, 2, P, 0)]))
+state("--0", "a 0 b 0: two input vertices, one value", 0)
+state("--5", "a 1 b 0: both values", 1)
+state("--5", "a 0 b 1: both values", 2)
+state("--1", "a 1 b 1: two input vertices, one value", 3)
+verdict(32, 0, "5 at an output in a stable state is a fight: 32, and not 33")
+net("output 3 joined firmly to 0 and, where a is 1, weakly to 1", sheet(1, [ZERO, ONE, OUTPUT], [(3, 1, N, 1), (3, 2, N, letter(1))]))
+state("--0", "a 0", 0)
+state("--5", "a 1", 1)
+verdict(32, 0, "one weak side is enough for a fight")
+net("output 3 joined weakly to 1, and output 4 to 0 and, where a is 0, to 1", sheet(
+    1, [ZERO, ONE, OUTPUT, OUTPUT], [(3, 2, N, 1), (4, 1, N, 1), (4, 2, P, letter(1))]))
+state("--25", "a 0", 0)
+state("--20", "a 1", 1)
+verdict(32, 0, "the fight at 4 comes before the 2 of the lower output: 32 and not 33")
+net("the same without the p edge", sheet(1, [ZERO, ONE, OUTPUT, OUTPUT], [(3, 2, N, 1), (4, 1, N, 1)]))
+state("--20", "a 0", 0)
+verdict(33, 3, "a weak drive without a fight is 33")
+net("key node 3 always pulled to 1; output 4 joined to 0 under 3 hat and to 1; output 5 joined weakly to 1 under 3", sheet(
+    0, PULLED + [OUTPUT, OUTPUT], UP + [(4, 1, P, vertex(3)), (4, 2, P, 0), (5, 2, N, vertex(3))]))
+state("--153", "key 0: a fight at output 4, not stable", 0, 0)
+state("--112", "key 1: stable", 0, 1)
+verdict(33, 5, "the lower output is at 5 in an unstable state only, so 33 names the one at 2")
+net("key node 3 = a', with one more edge to 0, a p edge under b", sheet(
+    2, [ZERO, ONE, STORAGE, STORAGE], inverter(3, letter(1)) + [(1, 3, P, letter(2)), (1, 4, N, vertex(3))]))
+state("--53", "a 0 b 0, key 0: the edge under b is closed, 3 is joined to 1 and weakly to 0, not stable", 0, 0)
+state("--13", "a 0 b 1, key 0: 3 is joined to 1 alone, not stable", 2, 0)
+verdict(31, 3, "5 at a key node breaks C1: 31 comes before 32")
+
+# C2: fights.
 
 net("an n edge under 1 from the 0-vertex to the 1-vertex", sheet(0, PAIR, [(1, 2, N, 1)]))
 verdict(32, 0, "one edge can be a fight; there is no storage vertex at all")
@@ -315,18 +364,18 @@ net("key node 3 = a'; output 4 joined to 0 under it, and to 1 by a transmission 
     1, [ZERO, ONE, STORAGE, OUTPUT], inverter(3, letter(1)) + [(1, 4, N, vertex(3))] + pass_on(2, 4, letter(1))))
 state("--01", "a 1 with 0: stable", 1, 0)
 state("--10", "a 0 with 1: stable", 0, 1)
-state("--02", "a 1 with 1: a fight through the output, which is 2, but not stable", 1, 1)
+state("--05", "a 1 with 1: a fight through the output, which is 5, but not stable", 1, 1)
 state("--13", "a 0 with 0: the output floats, not stable", 0, 0)
 verdict(0, 0, "C2 and C3 are about stable states alone")
 net("3 joined firmly to the 1-vertex, which is joined to 4, which is joined to the 0-vertex; 3 is the symbol of an edge that is open in the stable state", sheet(
     0, [ZERO, ONE, STORAGE, STORAGE], [(2, 3, P, 0), (2, 4, P, 0), (4, 1, N, 1), (1, 4, P, vertex(3))]))
-state("--12", "the walk from 3 to 0 would go through the 1-vertex, so 3 is 1 and only 4 is 2; stable", 0, 1)
+state("--15", "the walk from 3 to 0 would go through the 1-vertex, so 3 is 1 and only 4 is 5; stable", 0, 1)
 verdict(32, 0, "C1 holds at 3; the fight goes through 4, a storage vertex")
 net("3 joined to vertex 4, which carries a, and that to vertex 5, which carries b", sheet(
     2, [ZERO, ONE, OUTPUT, carries(1), carries(2)], [(4, 3, N, 1), (4, 3, P, 0), (4, 5, N, 1)]))
 state("--1--", "a 1 b 0: 3 is joined to a alone", 1)
 state("--0--", "a 0 b 1: 3 is joined to a alone", 2)
-verdict(32, 0, "a and b fight where they differ; 3 itself is never 2")
+verdict(32, 0, "a and b fight where they differ; 3 itself is never 5")
 
 # C3: outputs.
 

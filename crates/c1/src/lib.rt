@@ -13,17 +13,17 @@ ghost use Rattle.net.specs.WellFormed.{placeC1};
 ghost use Rattle.net.specs.Tables.{keyFlags};
 ghost use Rattle.lanes.specs.Lanes.{assignments, lane};
 ghost use Rattle.excitations.specs.Fit.{Fit};
-ghost use Rattle.excitations.specs.Excitations.{excitationLanes, fightLanes};
+ghost use Rattle.excitations.specs.Excitations.{excitationLanes};
 ghost use Rattle.sheet.specs.Search.{foundOf};
 
-// 1 for an excitation of 2 or 3, else 0.
+// 1 for an excitation of 2, 3 or 5, else 0.
 fn is_broken(excitation: u8) -> u8
     ensures { λ r. ⌜ r ≡ digit (leb 2 excitation) ⌝ }
 {
     if excitation < 2 { 0 } else { 1 }
 }
 
-// Is some entry of row y 2 or 3?
+// Is some entry of row y 2, 3 or 5?
 fn row_breaks(excitations: &[u8; Net::VERTEX_LANES], y: usize) -> bool
     requires { ⌜ y ≤ mostVertices ⌝ }
     ensures { λ r. ⌜ r ≡ anyBelow assignments (λ w. leb 2 (lane (now (excitations .entry)) y w)) ⌝ }
@@ -36,7 +36,7 @@ fn row_breaks(excitations: &[u8; Net::VERTEX_LANES], y: usize) -> bool
     found == 1
 }
 
-// Is y, with the flag of a key node, ever excited to 2 or 3?
+// Is y, with the flag of a key node, ever excited to 2, 3 or 5?
 fn breaks(key: u8, excitations: &[u8; Net::VERTEX_LANES], y: usize) -> bool
     requires { ⌜ y ≤ mostVertices ⌝ }
     ensures { λ r. ⌜ r ≡ (eqb key 1 && anyBelow assignments (λ w. leb 2 (lane (now (excitations .entry)) y w))) ⌝ }
@@ -47,7 +47,7 @@ fn breaks(key: u8, excitations: &[u8; Net::VERTEX_LANES], y: usize) -> bool
     row_breaks(excitations, y)
 }
 
-// The lowest key vertex that is ever excited to 2 or 3, by the tables of flags and of excitations.
+// The lowest key vertex that is ever excited to 2, 3 or 5, by the tables of flags and of excitations.
 fn lowest_in_rows<'a>(
     net: Net,
     keys: &'a [u8; Net::VERTEX_PLACES],
@@ -65,16 +65,12 @@ fn lowest_in_rows<'a>(
     Found::Nothing
 }
 
-// The lowest vertex that breaks C1. The tables that tell it, of excitations and of fights, are left to the caller.
-pub fn lowest_break<'a>(
-    net: Net,
-    excitations: &'a mut [u8; Net::VERTEX_LANES],
-    fights: &'a mut [u8; Net::VERTEX_LANES],
-) -> Found
-    requires { ⌜ Fit net × (length (now excitations) ≡ suc mostVertices * assignments) × (length (now fights) ≡ suc mostVertices * assignments) ⌝ }
-    ensures { λ r. ⌜ (r ≡ foundOf (placeC1 net)) × (now (excitations .exit) ≡ excitationLanes net) × (now (fights .exit) ≡ fightLanes net) ⌝ }
+// The lowest vertex that breaks C1. The table of excitations, which tells it, is left to the caller.
+pub fn lowest_break<'a>(net: Net, excitations: &'a mut [u8; Net::VERTEX_LANES]) -> Found
+    requires { ⌜ Fit net × (length (now excitations) ≡ suc mostVertices * assignments) ⌝ }
+    ensures { λ r. ⌜ (r ≡ foundOf (placeC1 net)) × (now (excitations .exit) ≡ excitationLanes net) ⌝ }
 {
-    vertex_rows::fill(net, excitations, fights);
+    vertex_rows::fill(net, excitations);
     let storage = graph::storage_flags(net);
     let keys = graph::key_flags(net, &storage);
     lowest_in_rows(net, &keys, excitations)

@@ -6,8 +6,9 @@ use net::Kind;
 use net::Net;
 use net::Symbol;
 ghost use mathlib.Core.Path.{_≡_};
-ghost use Prim.Native.Nat.{_≤_, _<_};
+ghost use Prim.Native.Nat.{suc, _*_, _≤_, _<_};
 ghost use lib.Dec.{eqb};
+ghost use lib.ListN.{replicate};
 ghost use Rattle.ternary.specs.Bits.{digit};
 ghost use Rattle.net.specs.Limits.{mostVertices, mostEdges};
 ghost use Rattle.net.specs.Symbols.{decode};
@@ -25,20 +26,20 @@ fn label_hits(label: u16, bit: u8, value: u8) -> u8
     flags::equal(conditions::symbol_at(symbols::decoded(label), bit), value)
 }
 
-// Marks where an edge that is on joins a storage vertex to an input vertex of the value.
-fn driven<'a>(
+// Marks where an edge that is on joins a storage vertex to an input vertex of the value. The table comes as zeros.
+fn driven<'a, 'b>(
+    marks: &'a mut [u8; Net::VERTEX_LANES],
     net: Net,
-    storage: &'a [u8; Net::VERTEX_PLACES],
-    inputs: &'a [u16; Net::VERTEX_PLACES],
-    places: &'a [u8; Net::SYMBOL_PLACES],
-    columns: &'a [u8; Net::COLUMN_LANES],
-    on: &'a [u8; Net::EDGE_LANES],
+    storage: &'b [u8; Net::VERTEX_PLACES],
+    inputs: &'b [u16; Net::VERTEX_PLACES],
+    places: &'b [u8; Net::SYMBOL_PLACES],
+    columns: &'b [u8; Net::COLUMN_LANES],
+    on: &'b [u8; Net::EDGE_LANES],
     value: u8,
-) -> [u8; Net::VERTEX_LANES]
-    requires { ⌜ Fit net × (now storage ≡ storageFlags net) × (now inputs ≡ inputLabels net) × (now places ≡ signalPlaces net) × (now columns ≡ lane-spec.columns) ⌝ }
-    ensures { λ r. ⌜ r ≡ spec.drivenLanes net (now (on .entry)) value ⌝ }
+)
+    requires { ⌜ Fit net × (now storage ≡ storageFlags net) × (now inputs ≡ inputLabels net) × (now places ≡ signalPlaces net) × (now columns ≡ lane-spec.columns) × (now marks ≡ replicate (suc mostVertices * lane-spec.assignments) 0) ⌝ }
+    ensures { λ r. ⌜ now (marks .exit) ≡ spec.drivenLanes net (now (on .entry)) value ⌝ }
 {
-    let mut marks = [0u8; Net::VERTEX_LANES];
     let count = net.edge_count as usize;
     for i in 0..count {
         let edge = net.edges[i];
@@ -50,10 +51,9 @@ fn driven<'a>(
             let p = places[y as usize * Symbol::BOUND + label as usize];
             let low = label_hits(label, 0, value);
             let high = label_hits(label, 1, value);
-            lane_marks::mark_row(&mut marks, y, on, i, columns, p as usize, low, high);
+            lane_marks::mark_row(marks, y, on, i, columns, p as usize, low, high);
         }
     }
-    marks
 }
 
 // Edge i between u and v, where it is on, carries the mark of either end to the other. Was there nothing to carry? Mostly so, and the test costs less
@@ -111,26 +111,26 @@ fn sweep<'a, 'b>(
     closed
 }
 
-// 1 where a storage vertex has a connection of a kind to an input vertex of the value.
-pub fn connected_lanes<'a>(
+// 1 where a storage vertex has a connection of a kind to an input vertex of the value. The table comes as zeros.
+pub fn connected_lanes<'a, 'b>(
+    marks: &'a mut [u8; Net::VERTEX_LANES],
     net: Net,
-    storage: &'a [u8; Net::VERTEX_PLACES],
-    inputs: &'a [u16; Net::VERTEX_PLACES],
-    places: &'a [u8; Net::SYMBOL_PLACES],
-    columns: &'a [u8; Net::COLUMN_LANES],
+    storage: &'b [u8; Net::VERTEX_PLACES],
+    inputs: &'b [u16; Net::VERTEX_PLACES],
+    places: &'b [u8; Net::SYMBOL_PLACES],
+    columns: &'b [u8; Net::COLUMN_LANES],
     kind: Kind,
     value: u8,
-) -> [u8; Net::VERTEX_LANES]
-    requires { ⌜ Fit net × (now storage ≡ storageFlags net) × (now inputs ≡ inputLabels net) × (now places ≡ signalPlaces net) × (now columns ≡ lane-spec.columns) ⌝ }
-    ensures { λ r. ⌜ r ≡ connectedLanes net kind value ⌝ }
+)
+    requires { ⌜ Fit net × (now storage ≡ storageFlags net) × (now inputs ≡ inputLabels net) × (now places ≡ signalPlaces net) × (now columns ≡ lane-spec.columns) × (now marks ≡ replicate (suc mostVertices * lane-spec.assignments) 0) ⌝ }
+    ensures { λ r. ⌜ now (marks .exit) ≡ connectedLanes net kind value ⌝ }
 {
     let mut on = [0u8; Net::EDGE_LANES];
     conditions::usable_lanes(&mut on, net, storage, places, columns, kind);
-    let mut marks = driven(net, storage, inputs, places, columns, &on, value);
+    driven(marks, net, storage, inputs, places, columns, &on, value);
     // A chain of edges that stand against the order takes one sweep back, but a sweep an edge forward.
     let mut back = false;
-    while !sweep(&mut marks, net, storage, &on, back) {
+    while !sweep(marks, net, storage, &on, back) {
         back = !back;
     }
-    marks
 }

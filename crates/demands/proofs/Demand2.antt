@@ -16,7 +16,7 @@ use Rattle.net.specs.Network.{network, Clean}
 use Rattle.net.specs.WellFormed.{C1, C2, WellFormed, LowestC1, LowestC3}
 use Rattle.net.specs.Known.{Known}
 use Rattle.net.specs.Ternary.{settled}
-use Rattle.net.proofs.Connected.{excitation-0, excitation-1, excitation-2, excitation-3}
+use Rattle.net.proofs.Connected.{excitation-0, excitation-1, excitation-2, excitation-3, excitation-5}
 use Rattle.net.proofs.TernaryLaws.{first-pass-unknown, second-pass-unknown}
 use Rattle.sheet.specs.Limits.{fieldWidth}
 use Rattle.sheet.specs.Rows.{answer}
@@ -53,6 +53,7 @@ module _ (sheet : List ℕ) (N : Net) (reads : readSheet sheet ≡ accepted N) w
       zero = excitation-0 N a q y s;
       one = excitation-1 N a q y s;
       floating = excitation-3 N a q y s;
+      fought = excitation-5 N a q y s;
       otherwise = excitation-2 N a q y s;
     },
   )

@@ -11,19 +11,20 @@ use Rattle.ternary.specs.Excitation.{H}
 use Rattle.ternary.specs.Passes.{mix, Ends}
 use Rattle.net.specs.declared.Net.{Net}
 use Rattle.net.specs.Graph.{keyCount, keyVertex}
-use Rattle.net.specs.Walks.{ExcitedTo0, ExcitedTo1, Floating}
+use Rattle.net.specs.Walks.{ExcitedTo0, ExcitedTo1, Floating, Fought}
 use Rattle.net.specs.Network.{network}
 use Rattle.net.specs.Ternary.{settled, SignalsDisagree}
 use Rattle.settlements.specs.Settle.{Settlement}
 use Rattle.settlements.specs.Batch.{Batch}
 use Rattle.demands.specs.Demand1.{resultOf, answerOf}
 
--- v is the excitation of storage vertex y: each value exactly in document 01's case
+-- v is the excitation of storage vertex y: each of the five values exactly in the case that documents 01 and 02 give it
 pub record ExcitationMeans (N : Net) (a q y v : ℕ) : Type 0 where
   pub zero : (v ≡ 0) ↔ ExcitedTo0 N a q y
   pub one : (v ≡ 1) ↔ ExcitedTo1 N a q y
   pub floating : (v ≡ 3) ↔ Floating N a q y
-  pub otherwise : (v ≡ 2) ↔ ((¬ ExcitedTo0 N a q y) × (¬ ExcitedTo1 N a q y) × (¬ Floating N a q y))
+  pub fought : (v ≡ 5) ↔ Fought N a q y
+  pub otherwise : (v ≡ 2) ↔ ((¬ ExcitedTo0 N a q y) × (¬ ExcitedTo1 N a q y) × (¬ Floating N a q y) × (¬ Fought N a q y))
 
 -- vector v ends a pass by H(p, .) from `from` with so many steps: it is the first fixed point, its h bytes are 0, 1 or X, and key node k is X exactly
 -- if two assignments of the signals of its component, both covered by those signals, disagree on its excitation

@@ -1,4 +1,4 @@
--- What the rows of the tables hold. Each state has its entry in the row of a storage vertex, that of the values of the vertex's signals, and the row begins with
+-- What the rows of the table hold. Each state has its entry in the row of a storage vertex, that of the values of the vertex's signals, and the row begins with
 -- the vertex's truth table.
 use Prim.Native.Nat.{ℕ, suc, _^_, _<_, _≤_}
 use mathlib.Core.Path.{_≡_, sym, ap, _∙_}
@@ -6,20 +6,18 @@ use mathlib.Core.Bool.{Bool, true, cond}
 use native.Mathlib.Nat.{pow-le-pow-right}
 use native.Mathlib.Omega.{arith}
 use lib.ListN.{getD}
-use Rattle.ternary.specs.Bits.{digit}
 use Rattle.ternary.proofs.ListLaws.{getD-table}
 use Rattle.net.specs.declared.Net.{Net}
 use Rattle.net.specs.Limits.{mostVertices}
 use Rattle.net.specs.Graph.{isStorage}
-use Rattle.net.specs.Excitation.{excitation, vertexFights}
-use Rattle.net.specs.SignalTable.{signalCount, gather, spreadInput, spreadKeys, excitationAt, truthTable}
-use Rattle.net.proofs.LocalFights.{vertex-fight-gather}
+use Rattle.net.specs.Excitation.{excitation}
+use Rattle.net.specs.SignalTable.{signalCount, gather, excitationAt, truthTable}
 use Rattle.net.proofs.SignalTable.{gather-lt, excitation-gather}
 use Rattle.net.proofs.TableLaws.{storage-row}
 use Rattle.lanes.specs.Lanes.{assignments, lane}
 use Rattle.lanes.proofs.GridLaws.{grid-cell}
 use Rattle.lanes.proofs.LaneLaws.{assignments-power}
-use Rattle.excitations.specs.Excitations.{excitationLanes, fightLanes}
+use Rattle.excitations.specs.Excitations.{excitationLanes}
 use Rattle.excitations.specs.Fit.{Fit}
 
 -- ---- entries
@@ -30,10 +28,6 @@ module _ (N : Net) (y w : ℕ) (h : y ≤ mostVertices) (l : w < assignments) wh
   excitation-read s =
       grid-cell assignments (suc mostVertices) (λ v a. cond (isStorage N v) (excitationAt N v a) 3) y w (omega arith) l
       ∙ ap (λ (b : Bool). cond b (excitationAt N y w) 3) s
-
-  pub fight-read : lane (fightLanes N) y w ≡ digit (vertexFights N (spreadInput N y w) (spreadKeys N y w) y)
-  unfolding fightLanes
-  fight-read = grid-cell assignments (suc mostVertices) (λ v a. digit (vertexFights N (spreadInput N v a) (spreadKeys N v a) v)) y w (omega arith) l
 
 -- ---- a storage vertex
 
@@ -56,6 +50,3 @@ module _ (N : Net) (fit : Fit N) (y : ℕ) (s : isStorage N y ≡ true) where
 
     pub excitation-entry : lane (excitationLanes N) y (gather N y a q) ≡ excitation N a q y
     excitation-entry = excitation-read N y _ row gather-below s ∙ sym (excitation-gather N y (fit .known) s a q)
-
-    pub fight-entry : lane (fightLanes N) y (gather N y a q) ≡ digit (vertexFights N a q y)
-    fight-entry = fight-read N y _ row gather-below ∙ ap digit (sym (vertex-fight-gather N (fit .known) a q y))

@@ -97,10 +97,10 @@ module _ (G : ℕ) (gate : ℕ → Gate) (L : ℕ) (few : G ≤ mostGates) (allo
   c2 a q c s = no-fight G gate L few a q
 
   pub c3 : C3 N
-  c3 a q c s y o e =
+  c3 a q c s y o =
       let r = output-gate G gate L few y o in
       let h : excitation N a q y < 2 = rw (r .2) at (excited-below-2 a q (r .0) (r .1)) in
-      omega arith
+      (λ e. omega arith, λ e. omega arith)
 
   pub gates-well-formed : WellFormed N
   gates-well-formed = record { c1 = c1; c2 = c2; c3 = c3 }

@@ -4,16 +4,14 @@ use native.Mathlib.Omega.{arith}
 use mathlib.Core.Path.{_≡_, sym, ap, _∙_}
 use mathlib.Core.Logic.{_⊎_, inl, inr, ⊎-elim}
 use mathlib.Core.Bool.{true}
-use Rattle.ternary.proofs.Tests.{both, or-true, not-both}
+use Rattle.ternary.proofs.Tests.{or-true, not-both}
 use Rattle.ternary.proofs.ListLaws.{place-at}
 use Rattle.net.specs.declared.Edge.{Edge}
-use Rattle.net.specs.declared.Kind.the-variants.{Any}
 use Rattle.net.specs.declared.Net.{Net}
 use Rattle.net.specs.Graph.{edgeAt, hasRole, isInput, isStorage, isOutput}
 use Rattle.net.specs.Walks.{Joins, Fight}
 use Rattle.net.specs.Excitation.{vertexFights}
-use Rattle.net.proofs.Connected.{connected-iff}
-use Rattle.net.proofs.Fights.{EdgeFight, VertexFight, fight-iff}
+use Rattle.net.proofs.Fights.{EdgeFight, VertexFight, fight-iff, fought-fights}
 use Rattle.net.proofs.Values.{input-of}
 use Rattle.gates.specs.declared.Gate.{Gate}
 use Rattle.gates.specs.Limits.{mostGates}
@@ -83,7 +81,6 @@ module _ (G : ℕ) (gate : ℕ → Gate) (L : ℕ) (few : G ≤ mostGates) where
   -- ---- no fight
 
   pub no-fight : (a q : ℕ) → Fight N a q → ⊥
-  unfolding vertexFights
   no-fight a q f = ⊎-elim by-edge by-vertex (fight-iff N a q .0 f)
     where
       by-edge : EdgeFight N a q → ⊥
@@ -109,10 +106,6 @@ module _ (G : ℕ) (gate : ℕ → Gate) (L : ℕ) (few : G ≤ mostGates) where
 
       by-vertex : VertexFight N a q → ⊥
       by-vertex v =
-          let s = v .storage in
-          let p = storage-place (v .vertex) s in
-          not-both (vertexFights N a q (v .vertex)) (fighting v s)
+          let p = storage-place (v .vertex) (v .storage) in
+          not-both (vertexFights N a q (v .vertex)) (fought-fights N a q (v .vertex) (v .storage) (v .fought))
           (rw (p .at) at (no-vertex-fight G gate L few (p .gate-of) (p .below) a q (p .vertex) (p .storage)))
-        where
-          fighting : (v : VertexFight N a q) → isStorage N (v .vertex) ≡ true → vertexFights N a q (v .vertex) ≡ true
-          fighting v s = both (both s (connected-iff N a q (v .vertex) s Any 0 .1 (v .to-low))) (connected-iff N a q (v .vertex) s Any 1 .1 (v .to-high))

@@ -9,7 +9,7 @@ ghost use lib.Dec.{eqb};
 ghost use Rattle.ternary.specs.Bits.{digit};
 ghost use Rattle.net.specs.Limits.{mostVertices};
 ghost use Rattle.net.specs.Graph.{keyCount};
-ghost use Rattle.net.specs.Tables.{Readable, storageFlags, keyFlags};
+ghost use Rattle.net.specs.Tables.{Readable, storageFlags, outputFlags, keyFlags};
 
 fn storage_flag(role: u8) -> u8
     ensures { λ r. ⌜ r ≡ digit (eqb role 1 || eqb role 2) ⌝ }
@@ -29,6 +29,19 @@ pub fn storage_flags(net: Net) -> [u8; Net::VERTEX_PLACES]
     let count = net.vertex_count as usize;
     for i in 0..count {
         flags[i + 1] = storage_flag(net.vertices[i].role);
+    }
+    flags
+}
+
+// 1 at each output, 0 elsewhere.
+pub fn output_flags(net: Net) -> [u8; Net::VERTEX_PLACES]
+    requires { ⌜ net .«vertex_count» ≤ mostVertices ⌝ }
+    ensures { λ r. ⌜ r ≡ outputFlags net ⌝ }
+{
+    let mut flags = [0u8; Net::VERTEX_PLACES];
+    let count = net.vertex_count as usize;
+    for i in 0..count {
+        flags[i + 1] = flags::equal(net.vertices[i].role, Vertex::OUTPUT);
     }
     flags
 }

@@ -12,10 +12,10 @@ use lib.ListN.{length, getD, take, length-map}
 use lib.Seq.{getD-take}
 use borrow.Author.Tests.{eqb-true, eq-eqb, ne-eqb, leb-true, ltb-true}
 use Rattle.net.specs.declared.Net.{Net}
-use Rattle.net.specs.Graph.{edgeAt, hasRole, isStorage}
+use Rattle.net.specs.Graph.{edgeAt, hasRole, isStorage, isOutput}
 use Rattle.net.specs.Walks.{Joins}
 use Rattle.net.specs.Classes.{relabel, merge, classes, inner, labels}
-use Rattle.ternary.proofs.Tests.{ands, or-true, test}
+use Rattle.ternary.proofs.Tests.{ands, or-right, or-true, test}
 use Rattle.ternary.proofs.ListLaws.{length-table, getD-table, getD-map-lt, below-cases}
 
 -- relabelling
@@ -56,6 +56,10 @@ role-range N v r e = let h = leb-true v (N .«vertex_count») (search ands) in o
 role-low : (N : Net) (v r : ℕ) → hasRole N v r ≡ true → 1 ≤ v
 unfolding hasRole
 role-low N v r e = ltb-true 0 v (search ands)
+
+pub output-storage : (N : Net) (v : ℕ) → isOutput N v ≡ true → isStorage N v ≡ true
+unfolding isStorage
+output-storage N v e = or-right (hasRole N v 1) (hasRole N v 2) e
 
 pub storage-low : (N : Net) (v : ℕ) → isStorage N v ≡ true → 1 ≤ v
 unfolding isStorage

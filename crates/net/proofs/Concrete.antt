@@ -12,7 +12,7 @@ use Rattle.net.specs.Symbols.{decode}
 use Rattle.net.specs.Graph.{noVertex, noEdge, vertexAt, edgeAt, hasRole, isStorage, isKey, keyIndex, keys, keyCount, keyVertex}
 use Rattle.net.specs.State.{symbolValue, value, conditionOf, condition, usable, conditions, inputOf}
 use Rattle.net.specs.Classes.{relabel, merge, classes, inner, labels, sameLabel, exits, leads, reaches}
-use Rattle.net.specs.Excitation.{connectedUnder, connected, excitationOf, excitation, edgeFights, vertexFights, fights}
+use Rattle.net.specs.Excitation.{connectedUnder, connected, excitationOf, excitation, uncertain, edgeFights, vertexFights, fights}
 use Rattle.net.specs.Component.{sameComponent, carries, gives, isSignal, signals}
 use Rattle.ternary.specs.Run.{isStable}
 use Rattle.net.specs.Network.{stable}
@@ -37,5 +37,5 @@ net vs es l =
 
 -- `unfolding model` opens every definition of the model
 unfoldable pub model : Unit {0}
-unfolding excitation connectedUnder connected excitationOf reaches labels merge relabel classes inner table leads exits sameLabel anyBelow allBelow countBelow listBelow edgeAt vertexAt hasRole isStorage isKey keyIndex keys keyCount keyVertex usable conditions inputOf condition conditionOf value symbolValue decode bit edgeFights vertexFights fights sameComponent carries gives isSignal signals isStable stable leastBelow everyState breaksC1 placeC1 testC2 breaksC3 placeC3
+unfolding excitation uncertain connectedUnder connected excitationOf reaches labels merge relabel classes inner table leads exits sameLabel anyBelow allBelow countBelow listBelow edgeAt vertexAt hasRole isStorage isKey keyIndex keys keyCount keyVertex usable conditions inputOf condition conditionOf value symbolValue decode bit edgeFights vertexFights fights sameComponent carries gives isSignal signals isStable stable leastBelow everyState breaksC1 placeC1 testC2 breaksC3 placeC3
 model = tt

@@ -1,4 +1,4 @@
--- `connected` finds exactly the connections, and `excitation` has the four cases of document 01.
+-- `connected` finds exactly the connections, and `excitation` has its five cases.
 use mathlib.Core.Path.{_≡_, refl, ap}
 use mathlib.Core.Bool.{Bool, true, false, not, _&&_}
 use mathlib.Core.Logic.{_⊎_, ⊎-elim, _↔_, _≢_, Iff·trans, Iff·and}
@@ -12,11 +12,12 @@ use Rattle.net.specs.Graph.{edgeAt, isStorage}
 use Rattle.net.specs.declared.Kind.{Kind}
 use Rattle.net.specs.declared.Kind.the-variants.{Any, NType, PType}
 use Rattle.net.specs.State.{admits, condition, usable, conditions, inputOf}
-use Rattle.net.specs.Walks.{Link, Walk, edge, via, Connects, ExcitedTo0, ExcitedTo1, Floating}
+use Rattle.net.specs.Walks.{Link, Walk, edge, via, Connects, ExcitedTo0, ExcitedTo1, Floating, Fought}
 use Rattle.net.specs.Excitation.{connectedUnder, connected, excitationOf, excitation}
 use Rattle.ternary.proofs.Tests.{and-left, and-right, fails, not-both, cond-by}
 use borrow.Author.Tests.{not-true}
 use Rattle.ternary.proofs.ListLaws.{getD-table}
+use Rattle.net.proofs.Flags.{and-false-right}
 use Rattle.net.proofs.Values.{input-cases, input-of}
 use Rattle.net.proofs.Reach.{reaches-walk, walk-reaches}
 
@@ -41,33 +42,50 @@ closed PType PClosed e = refl
 -- the table of `excitationOf`, where a connection of either type is a connection
 module _ (n0 c0 p1 c1 : Bool) where
   -- what follows from v being the excitation, by the tests in turn
-  of-by : (P : ℕ → Type 0) → (n0 ≡ true → c1 ≡ false → P 0) → (p1 ≡ true → c0 ≡ false → P 1) → (c0 ≡ false → c1 ≡ false → P 3) → P 2 → P (excitationOf n0 c0 p1 c1)
+  of-by : (P : ℕ → Type 0) → (n0 ≡ true → c1 ≡ false → P 0) → (p1 ≡ true → c0 ≡ false → P 1) → (c0 ≡ false → c1 ≡ false → P 3)
+      → (c0 ≡ true → c1 ≡ true → P 5) → P 2 → P (excitationOf n0 c0 p1 c1)
   unfolding excitationOf
-  of-by P f0 f1 f3 f2 =
+  of-by P f0 f1 f3 f5 f2 =
       cond-by P (n0 && not c1) (λ t. f0 (and-left n0 _ t) (not-true c1 (and-right n0 _ t))) (λ _.
       cond-by P (p1 && not c0) (λ t. f1 (and-left p1 _ t) (not-true c0 (and-right p1 _ t))) (λ _.
-      cond-by P (not c0 && not c1) (λ t. f3 (not-true c0 (and-left (not c0) _ t)) (not-true c1 (and-right (not c0) _ t))) (λ _. f2)))
+      cond-by P (not c0 && not c1) (λ t. f3 (not-true c0 (and-left (not c0) _ t)) (not-true c1 (and-right (not c0) _ t))) (λ _.
+      cond-by P (c0 && c1) (λ t. f5 (and-left c0 _ t) (and-right c0 _ t)) (λ _. f2))))
 
   of0 : (excitationOf n0 c0 p1 c1 ≡ 0) ↔ ((n0 ≡ true) × (c1 ≡ false))
   unfolding excitationOf
-  of0 = (of-by (λ v. v ≡ 0 → (n0 ≡ true) × (c1 ≡ false)) (λ p q _. (p, q)) (λ _ _ e. absurd (omega arith)) (λ _ _ e. absurd (omega arith)) (λ e. absurd (omega arith)), λ h. rw (h .0, h .1))
+  of0 = (
+    of-by (λ v. v ≡ 0 → (n0 ≡ true) × (c1 ≡ false))
+        (λ p q _. (p, q)) (λ _ _ e. absurd (omega arith)) (λ _ _ e. absurd (omega arith)) (λ _ _ e. absurd (omega arith)) (λ e. absurd (omega arith)),
+    λ h. rw (h .0, h .1),
+  )
 
   of1 : (n0 ≡ true → c0 ≡ true) → (excitationOf n0 c0 p1 c1 ≡ 1) ↔ ((p1 ≡ true) × (c0 ≡ false))
   unfolding excitationOf
   of1 f = (
-    of-by (λ v. v ≡ 1 → (p1 ≡ true) × (c0 ≡ false)) (λ _ _ e. absurd (omega arith)) (λ p q _. (p, q)) (λ _ _ e. absurd (omega arith)) (λ e. absurd (omega arith)),
+    of-by (λ v. v ≡ 1 → (p1 ≡ true) × (c0 ≡ false))
+        (λ _ _ e. absurd (omega arith)) (λ p q _. (p, q)) (λ _ _ e. absurd (omega arith)) (λ _ _ e. absurd (omega arith)) (λ e. absurd (omega arith)),
     λ h. rw (h .0, h .1, fails n0 (λ t. not-both c0 (f t) (h .1))),
   )
 
   of3 : (n0 ≡ true → c0 ≡ true) → (p1 ≡ true → c1 ≡ true) → (excitationOf n0 c0 p1 c1 ≡ 3) ↔ ((c0 ≡ false) × (c1 ≡ false))
   unfolding excitationOf
   of3 f g = (
-    of-by (λ v. v ≡ 3 → (c0 ≡ false) × (c1 ≡ false)) (λ _ _ e. absurd (omega arith)) (λ _ _ e. absurd (omega arith)) (λ p q _. (p, q)) (λ e. absurd (omega arith)),
+    of-by (λ v. v ≡ 3 → (c0 ≡ false) × (c1 ≡ false))
+        (λ _ _ e. absurd (omega arith)) (λ _ _ e. absurd (omega arith)) (λ p q _. (p, q)) (λ _ _ e. absurd (omega arith)) (λ e. absurd (omega arith)),
     λ h. rw (h .0, h .1, fails n0 (λ t. not-both c0 (f t) (h .0)), fails p1 (λ t. not-both c1 (g t) (h .1))),
   )
 
-  of2 : excitationOf n0 c0 p1 c1 ≢ 0 → excitationOf n0 c0 p1 c1 ≢ 1 → excitationOf n0 c0 p1 c1 ≢ 3 → excitationOf n0 c0 p1 c1 ≡ 2
-  of2 = of-by (λ v. v ≢ 0 → v ≢ 1 → v ≢ 3 → v ≡ 2) (λ _ _ f g h. absurd (f refl)) (λ _ _ f g h. absurd (g refl)) (λ _ _ f g h. absurd (h refl)) (λ f g h. refl)
+  of5 : (excitationOf n0 c0 p1 c1 ≡ 5) ↔ ((c0 ≡ true) × (c1 ≡ true))
+  unfolding excitationOf
+  of5 = (
+    of-by (λ v. v ≡ 5 → (c0 ≡ true) × (c1 ≡ true))
+        (λ _ _ e. absurd (omega arith)) (λ _ _ e. absurd (omega arith)) (λ _ _ e. absurd (omega arith)) (λ p q _. (p, q)) (λ e. absurd (omega arith)),
+    λ h. rw (h .0, h .1, and-false-right n0, and-false-right p1),
+  )
+
+  of2 : excitationOf n0 c0 p1 c1 ≢ 0 → excitationOf n0 c0 p1 c1 ≢ 1 → excitationOf n0 c0 p1 c1 ≢ 3 → excitationOf n0 c0 p1 c1 ≢ 5 → excitationOf n0 c0 p1 c1 ≡ 2
+  of2 = of-by (λ v. v ≢ 0 → v ≢ 1 → v ≢ 3 → v ≢ 5 → v ≡ 2)
+      (λ _ _ f g h k. absurd (f refl)) (λ _ _ f g h k. absurd (g refl)) (λ _ _ f g h k. absurd (h refl)) (λ _ _ f g h k. absurd (k refl)) (λ f g h k. refl)
 
 module _ (N : Net) (a q : ℕ) where
   connects-any : (k : Kind) (y b : ℕ) → Connects N a q k y b → Connects N a q Any y b
@@ -114,10 +132,14 @@ module _ (N : Net) (a q : ℕ) where
         split : Floating N a q y → (¬ Connects N a q Any y 0) × (¬ Connects N a q Any y 1)
         split f = (λ (x, i, p). f (x, input-of N a q 0 x i, p), λ (x, i, p). f (x, input-of N a q 1 x i, p))
 
+    pub excitation-5 : (excitation N a q y ≡ 5) ↔ Fought N a q y
+    unfolding excitation connected
+    excitation-5 = Iff·trans (of5 _ _ _ _) (Iff·and (connected-iff Any 0) (connected-iff Any 1))
+
     -- otherwise
-    pub excitation-2 : (excitation N a q y ≡ 2) ↔ ((¬ ExcitedTo0 N a q y) × (¬ ExcitedTo1 N a q y) × (¬ Floating N a q y))
+    pub excitation-2 : (excitation N a q y ≡ 2) ↔ ((¬ ExcitedTo0 N a q y) × (¬ ExcitedTo1 N a q y) × (¬ Floating N a q y) × (¬ Fought N a q y))
     unfolding excitation connected
     excitation-2 = (
-      λ e. (λ h. omega (arith, excitation-0 .1 h), λ h. omega (arith, excitation-1 .1 h), λ h. omega (arith, excitation-3 .1 h)),
-      λ h. of2 _ _ _ _ (λ e. h .0 (excitation-0 .0 e)) (λ e. h .1 (excitation-1 .0 e)) (λ e. h .2 (excitation-3 .0 e)),
+      λ e. (λ h. omega (arith, excitation-0 .1 h), λ h. omega (arith, excitation-1 .1 h), λ h. omega (arith, excitation-3 .1 h), λ h. omega (arith, excitation-5 .1 h)),
+      λ h. of2 _ _ _ _ (λ e. h .0 (excitation-0 .0 e)) (λ e. h .1 (excitation-1 .0 e)) (λ e. h .2 (excitation-3 .0 e)) (λ e. h .3 (excitation-5 .0 e)),
     )

@@ -56,4 +56,4 @@ module _ (M N : Net) (φ : ℕ → ℕ) where
 
       pub fights-copy : (u : ℕ) → isStorage M u ≡ true → vertexFights N aN qN (φ u) ≡ vertexFights M aM qM u
       unfolding vertexFights
-      fights-copy u su = rw (storage u, connected-copy Any 0 u su, connected-copy Any 1 u su)
+      fights-copy u su = rw (storage u, excitation-copy u su)

@@ -138,7 +138,7 @@ beside =
     (edge 1 3 1 0 ∷ edge 1 2 1 101 ∷ [])
     0
 
-beside-table : map (λ q. excitation beside 0 q 1) (0 ∷ 1 ∷ []) ≡ 2 ∷ 1 ∷ []
+beside-table : map (λ q. excitation beside 0 q 1) (0 ∷ 1 ∷ []) ≡ 5 ∷ 1 ∷ []
 unfolding model beside
 beside-table = refl
 

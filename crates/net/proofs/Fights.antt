@@ -3,19 +3,20 @@ use mathlib.Core.Path.{_≡_, refl}
 use mathlib.Core.Bool.{Bool, true, _&&_, _||_}
 use mathlib.Core.Logic.{_⊎_, inl, inr, ⊎-elim, _↔_}
 use Prim.Native.Nat.{ℕ, suc, _<_}
+use borrow.Author.Tests.{eqb-true, eq-eqb}
 use Rattle.net.specs.declared.Edge.{Edge}
 use Rattle.net.specs.declared.Net.{Net}
 use Rattle.ternary.specs.Lists.{anyBelow}
 use Rattle.net.specs.Graph.{edgeAt, isStorage}
 use Rattle.net.specs.declared.Kind.the-variants.{Any}
 use Rattle.net.specs.State.{usable, inputOf}
-use Rattle.net.specs.Walks.{Joins, Link, Walk, edge, via, Connection, Connects, Fight}
-use Rattle.net.specs.Excitation.{edgeFights, vertexFights, fights}
+use Rattle.net.specs.Walks.{Joins, Link, Walk, edge, via, Connection, Fought, Fight}
+use Rattle.net.specs.Excitation.{excitation, edgeFights, vertexFights, fights}
 use Rattle.ternary.proofs.Tests.{ands, and-left, and-right, both, or-true, or-left, or-right}
 use Rattle.ternary.proofs.ListLaws.{any-found, any-of}
 use Rattle.net.proofs.Classes.{storage-range}
 use Rattle.net.proofs.Reach.{flip}
-use Rattle.net.proofs.Connected.{connected-iff}
+use Rattle.net.proofs.Connected.{excitation-5}
 
 -- from u to y backwards, then on from y
 backwards : {N : Net} {on : ℕ → Bool} {y u v : ℕ} → Walk N on y u → isStorage N y ≡ true → Walk N on y v → Walk N on u v
@@ -33,19 +34,21 @@ module _ (N : Net) (a q : ℕ) where
   pub record VertexFight : Type 0 where
     pub vertex : ℕ
     pub storage : isStorage N vertex ≡ true
-    pub to-low : Connects N a q Any vertex 0
-    pub to-high : Connects N a q Any vertex 1
+    pub fought : Fought N a q vertex
 
   pub fight-iff : Fight N a q ↔ (EdgeFight ⊎ VertexFight)
   fight-iff = (λ f. out (f .is-low) (f .is-high) (f .joined), back)
     where
       out : {u v : ℕ} → inputOf N a q 0 u ≡ true → inputOf N a q 1 v ≡ true → Connection N a q Any u v → EdgeFight ⊎ VertexFight
       out {u} {v} i j (edge l) = inl (record { low = u; high = v; is-low = i; is-high = j; link = l })
-      out {u} {v} i j (via {w = w} l s p) = inr (record { vertex = w; storage = s; to-low = (u, i, edge (flip l)); to-high = (v, j, p) })
+      out {u} {v} i j (via {w = w} l s p) = inr (record { vertex = w; storage = s; fought = ((u, i, edge (flip l)), (v, j, p)) })
 
       back : EdgeFight ⊎ VertexFight → Fight N a q
       back (inl e) = record { low = e .low; high = e .high; is-low = e .is-low; is-high = e .is-high; joined = edge (e .link) }
-      back (inr e) = record { low = e .to-low .0; high = e .to-high .0; is-low = e .to-low .1; is-high = e .to-high .1; joined = backwards (e .to-low .2) (e .storage) (e .to-high .2) }
+      back (inr e) =
+          let low = e .fought .0 in
+          let high = e .fought .1 in
+          record { low = low .0; high = high .0; is-low = low .1; is-high = high .1; joined = backwards (low .2) (e .storage) (high .2) }
 
   -- the ends of an edge, in one order
   abbrev opposite : ℕ → ℕ → Bool
@@ -83,14 +86,15 @@ module _ (N : Net) (a q : ℕ) where
       go : (y : ℕ) × (y < suc (N .«vertex_count»)) × (vertexFights N a q y ≡ true) → VertexFight
       go (y, h, f) =
           let s : isStorage N y ≡ true = search ands in
-          record { vertex = y; storage = s; to-low = connected-iff N a q y s Any 0 .0 (search ands); to-high = connected-iff N a q y s Any 1 .0 (search ands) }
+          record { vertex = y; storage = s; fought = excitation-5 N a q y s .0 (eqb-true (excitation N a q y) 5 (search ands)) }
+
+  pub fought-fights : (y : ℕ) → isStorage N y ≡ true → Fought N a q y → vertexFights N a q y ≡ true
+  unfolding vertexFights
+  fought-fights y s f = both s (eq-eqb (excitation N a q y) 5 (excitation-5 N a q y s .1 f))
 
   vertex-test : VertexFight → anyBelow (suc (N .«vertex_count»)) (vertexFights N a q) ≡ true
-  unfolding vertexFights
   vertex-test f =
-      let s = f .storage in
-      any-of (vertexFights N a q) (suc (N .«vertex_count»)) (f .vertex) (storage-range N (f .vertex) s)
-      (both (both s (connected-iff N a q (f .vertex) s Any 0 .1 (f .to-low))) (connected-iff N a q (f .vertex) s Any 1 .1 (f .to-high)))
+      any-of (vertexFights N a q) (suc (N .«vertex_count»)) (f .vertex) (storage-range N (f .vertex) (f .storage)) (fought-fights (f .vertex) (f .storage) (f .fought))
 
   pub fights-iff : (fights N a q ≡ true) ↔ Fight N a q
   unfolding fights

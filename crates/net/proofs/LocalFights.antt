@@ -1,20 +1,17 @@
--- Fights and outputs are local: to one component, or to one edge between two input vertices.
+-- Fights are local: to one component, or to one edge between two input vertices.
 use Prim.Native.Nat.{ℕ}
 use mathlib.Core.Path.{_≡_}
 use mathlib.Core.Bool.{true, _&&_}
 use mathlib.Core.Logic.{⊎-elim}
 use Rattle.net.specs.declared.Net.{Net}
 use Rattle.net.specs.declared.Kind.the-variants.{Any}
-use Rattle.net.specs.Graph.{vertexAt, edgeAt, isInput, isStorage, isOutput, hasRole}
+use Rattle.net.specs.Graph.{vertexAt, edgeAt, isInput, isStorage}
 use Rattle.net.specs.State.{value, condition, usable, inputOf}
-use Rattle.net.specs.Excitation.{excitation, edgeFights, vertexFights}
+use Rattle.net.specs.Excitation.{edgeFights, vertexFights}
 use Rattle.net.specs.Component.{Agree}
-use Rattle.net.specs.SignalTable.{gather, spreadInput, spreadKeys}
-use Rattle.net.specs.Known.{Known}
-use Rattle.ternary.proofs.Tests.{and-left, and-right, by-test, or-true, or-right}
+use Rattle.ternary.proofs.Tests.{and-left, and-right, by-test, or-true}
 use Rattle.net.proofs.Values.{input-of}
-use Rattle.net.proofs.Local.{connected-local, excitation-local}
-use Rattle.net.proofs.SignalTable.{gather-agrees}
+use Rattle.net.proofs.Local.{excitation-local}
 
 -- ---- one edge
 
@@ -46,15 +43,5 @@ module _ (N : Net) (a q a′ q′ : ℕ) where
   pub vertex-fight-local : (y : ℕ) → Agree N y a q a′ q′ → vertexFights N a q y ≡ vertexFights N a′ q′ y
   unfolding vertexFights
   vertex-fight-local y g = by-test (isStorage N y)
-      (λ s. rw (s, connected-local N y a q a′ q′ s g Any 0, connected-local N y a q a′ q′ s g Any 1))
+      (λ s. rw (s, excitation-local N y a q a′ q′ s g))
       (λ s. rw s)
-
-  -- and so does an output's excitation
-  pub output-local : (y : ℕ) → isOutput N y ≡ true → Agree N y a q a′ q′ → excitation N a q y ≡ excitation N a′ q′ y
-  unfolding isStorage
-  output-local y o g = excitation-local N y a q a′ q′ (or-right (hasRole N y 1) (hasRole N y 2) o) g
-
--- a vertex fights exactly if it does at the assignment of its signals
-pub vertex-fight-gather : (N : Net) → Known N → (a q y : ℕ)
-    → vertexFights N a q y ≡ vertexFights N (spreadInput N y (gather N y a q)) (spreadKeys N y (gather N y a q)) y
-vertex-fight-gather N known a q y = vertex-fight-local N a q _ _ y (gather-agrees N y known a q)

@@ -1,16 +1,17 @@
 -- The code's tables entry by entry.
-use mathlib.Core.Path.{_≡_, refl}
+use mathlib.Core.Path.{_≡_, refl, sym, ap, _∙_}
 use mathlib.Core.Bool.{Bool, true, false, _&&_, _||_}
 use mathlib.Core.List.{List}
 use mathlib.Core.Logic.{_≢_}
 use Prim.Native.Nat.{ℕ, suc, _+_, _-_, _<_, _≤_}
 use native.Mathlib.Omega.{arith}
-use lib.Dec.{eqb}
-use lib.ListN.{getD, take}
-use borrow.Author.Tests.{lt-ltb, le-leb, eq-eqb, ne-eqb, eqb-false}
+use lib.Dec.{eqb, leb}
+use lib.ListN.{getD, take, List·getD-eq-default}
+use borrow.Author.Tests.{lt-ltb, le-leb, leb-true, leb-false, eq-eqb, ne-eqb, eqb-false}
 use Rattle.ternary.specs.Bits.{digit}
+use Rattle.ternary.specs.Lists.{table}
 use Rattle.ternary.proofs.BitLaws.{eqb-digit}
-use Rattle.ternary.proofs.ListLaws.{getD-table}
+use Rattle.ternary.proofs.ListLaws.{getD-table, length-table}
 use Rattle.ternary.proofs.Tests.{fails, by-test}
 use Rattle.net.specs.declared.Net.{Net}
 use Rattle.net.specs.Limits.{mostVertices}
@@ -18,7 +19,7 @@ use Rattle.net.specs.Classes.{classes, inner, labels}
 use Rattle.net.specs.Component.{everyEdge, components}
 use Rattle.net.specs.Tables.{Readable, Prepared, storageFlags, componentLabels}
 use Rattle.net.specs.Graph.{noVertex, vertexAt, edgeAt, hasRole, isStorage}
-use Rattle.net.proofs.Classes.{storage-range, inner-end1, inner-end2}
+use Rattle.net.proofs.Classes.{role-range, storage-range, inner-end1, inner-end2}
 use Rattle.net.proofs.ClassTables.{take-classes}
 
 module _ (N : Net) where
@@ -26,6 +27,9 @@ module _ (N : Net) where
   pub no-vertex-0 : (r : ℕ) → hasRole N 0 r ≡ false
   unfolding hasRole
   no-vertex-0 r = refl
+
+  pub no-vertex-above : (v r : ℕ) → N .«vertex_count» < v → hasRole N v r ≡ false
+  no-vertex-above v r h = fails (hasRole N v r) (λ e. omega (arith, role-range N v r e))
 
   pub no-storage-0 : digit (isStorage N 0) ≡ 0
   unfolding isStorage hasRole
@@ -55,6 +59,15 @@ flag-storage r l h = by-test (eqb r 1) (λ e. rw e) (λ e. rw (e, eq-eqb r 2 (om
 
 pub flag-other : (r : ℕ) → r ≢ 1 → r ≢ 2 → 0 ≡ digit (eqb r 1 || eqb r 2)
 flag-other r a b = rw (ne-eqb r 1 a, ne-eqb r 2 b)
+
+-- an entry of a table of flags tells the test that made the table; no vertex passes it beyond the table
+pub flag-test : (p : ℕ → Bool) → ((v : ℕ) → p v ≡ true → v ≤ mostVertices) → (v : ℕ) → eqb (getD (table (suc mostVertices) (λ u. digit (p u))) v 0) 1 ≡ p v
+flag-test p inside v = by-test (leb v mostVertices)
+    (λ h. ap (λ (x : ℕ). eqb x 1) (getD-table (suc mostVertices) (λ u. digit (p u)) v 0 (omega (arith, leb-true v mostVertices h))) ∙ eqb-digit (p v))
+    (λ h.
+    let above = leb-false v mostVertices h in
+    ap (λ (x : ℕ). eqb x 1) (List·getD-eq-default (table (suc mostVertices) (λ u. digit (p u))) 0 {n = v} (omega (arith, above, length-table (suc mostVertices) (λ u. digit (p u)))))
+    ∙ sym (fails (p v) (λ t. omega (arith, above, inside v t))))
 
 module _ (N : Net) (s : List ℕ) (flags : s ≡ storageFlags N) where
   pub storage-read : (v : ℕ) → v ≤ mostVertices → getD s v 0 ≡ digit (isStorage N v)

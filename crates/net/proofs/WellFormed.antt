@@ -2,7 +2,7 @@
 use Prim.Native.Nat.{ℕ, suc, _^_, _<_}
 use mathlib.Core.Path.{_≡_}
 use mathlib.Core.Bool.{Bool, true, false, not, _&&_}
-use mathlib.Core.Logic.{_↔_, Iff·trans}
+use mathlib.Core.Logic.{_⊎_, inl, inr, ⊎-elim, _↔_, Iff·trans}
 use mathlib.Core.Option.{none, some}
 use lib.Dec.{eqb, ltb}
 use borrow.Author.Tests.{eqb-true, eq-eqb, ltb-true, lt-ltb, not-true, not-false}
@@ -11,15 +11,22 @@ use Rattle.ternary.specs.Bits.{bit}
 use Rattle.ternary.specs.Run.{isStable}
 use Rattle.net.specs.declared.Net.{Net}
 use Rattle.net.specs.Graph.{isKey, isOutput, keyCount, keyIndex, keyVertex}
-use Rattle.net.specs.Excitation.{excitation, fights}
+use Rattle.net.specs.Excitation.{excitation, uncertain, fights}
 use Rattle.net.specs.Network.{network, Clean, Stable, stable}
 use Rattle.net.specs.WellFormed.{C1, C2, C3, BreaksC1, LowestC1, BreaksC3, LowestC3, everyState, breaksC1, placeC1, testC2, breaksC3, placeC3}
-use Rattle.ternary.proofs.Tests.{and-left, and-right, both, by-test, fails, not-and, not-both}
+use Rattle.ternary.proofs.Tests.{and-left, and-right, both, by-test, fails, not-and, not-both, or-left, or-right, or-true}
 use Rattle.ternary.proofs.BitLaws.{binary-iff}
 use Rattle.ternary.proofs.ListLaws.{all-at, all-of, all-false, least-none-iff, least-some-iff}
 use Rattle.net.proofs.Classes.{role-range, storage-range}
 use Rattle.net.proofs.Fights.{fights-iff}
 use Rattle.net.proofs.Keys.{key-at, index-at, key-storage}
+
+uncertain-iff : (v : ℕ) → (uncertain v ≡ true) ↔ ((v ≡ 2) ⊎ (v ≡ 5))
+unfolding uncertain
+uncertain-iff v = (
+  λ e. ⊎-elim (λ t. inl (eqb-true v 2 t)) (λ t. inr (eqb-true v 5 t)) (or-true (eqb v 2) (eqb v 5) e),
+  λ h. ⊎-elim (λ t. or-left (eqb v 2) (eqb v 5) (eq-eqb v 2 t)) (λ t. or-right (eqb v 2) (eqb v 5) (eq-eqb v 5 t)) h,
+)
 
 module _ (N : Net) where
   pub stable-iff : (a q : ℕ) → (stable N a q ≡ true) ↔ Stable N a q
@@ -108,23 +115,23 @@ module _ (N : Net) where
   unfolding breaksC3
   breaks-c3-iff y = (there, back)
     where
-      there : (isOutput N y && not (everyState N (λ a q. not (stable N a q && eqb (excitation N a q y) 2)))) ≡ true → BreaksC3 N y
+      there : (isOutput N y && not (everyState N (λ a q. not (stable N a q && uncertain (excitation N a q y))))) ≡ true → BreaksC3 N y
       there e =
-          let f = some-state-iff (λ a q. not (stable N a q && eqb (excitation N a q y) 2)) .0 (and-right (isOutput N y) _ e) in
-          let t : (stable N (f .input) (f .key) && eqb (excitation N (f .input) (f .key) y) 2) ≡ true = not-false _ (f .fails) in
+          let f = some-state-iff (λ a q. not (stable N a q && uncertain (excitation N a q y))) .0 (and-right (isOutput N y) _ e) in
+          let t : (stable N (f .input) (f .key) && uncertain (excitation N (f .input) (f .key) y)) ≡ true = not-false _ (f .fails) in
           record {
             output = and-left (isOutput N y) _ e;
             input = f .input;
             state = f .key;
             clean = f .clean;
             stable = stable-iff (f .input) (f .key) .0 (and-left (stable N (f .input) (f .key)) _ t);
-            excited = eqb-true (excitation N (f .input) (f .key) y) 2 (and-right (stable N (f .input) (f .key)) _ t);
+            excited = uncertain-iff (excitation N (f .input) (f .key) y) .0 (and-right (stable N (f .input) (f .key)) _ t);
           }
 
-      back : BreaksC3 N y → (isOutput N y && not (everyState N (λ a q. not (stable N a q && eqb (excitation N a q y) 2)))) ≡ true
+      back : BreaksC3 N y → (isOutput N y && not (everyState N (λ a q. not (stable N a q && uncertain (excitation N a q y))))) ≡ true
       back b =
-          let t = both (stable-iff (b .input) (b .state) .1 (b .stable)) (eq-eqb (excitation N (b .input) (b .state) y) 2 (b .excited)) in
-          both (b .output) (some-state-iff (λ a q. not (stable N a q && eqb (excitation N a q y) 2)) .1
+          let t = both (stable-iff (b .input) (b .state) .1 (b .stable)) (uncertain-iff (excitation N (b .input) (b .state) y) .1 (b .excited)) in
+          both (b .output) (some-state-iff (λ a q. not (stable N a q && uncertain (excitation N a q y))) .1
           (record { input = b .input; key = b .state; clean = b .clean; fails = rw t }))
 
   -- y is the lowest output that breaks C3
@@ -135,6 +142,9 @@ module _ (N : Net) where
   pub place-c3-none : (placeC3 N ≡ none) ↔ C3 N
   unfolding placeC3
   place-c3-none = Iff·trans (least-none-iff (breaksC3 N) (BreaksC3 N) breaks-c3-iff (suc (N .«vertex_count»)) (λ y b. role-range N y 2 (b .output))) (
-    λ f a q c s y o e. f y (record { output = o; input = a; state = q; clean = c; stable = s; excited = e }),
-    λ f y b. f (b .input) (b .state) (b .clean) (b .stable) y (b .output) (b .excited),
+    λ f a q c s y o. (λ e. breaks f a q c s y o (inl e), λ e. breaks f a q c s y o (inr e)),
+    λ f y b. let n = f (b .input) (b .state) (b .clean) (b .stable) y (b .output) in ⊎-elim (n .0) (n .1) (b .excited),
   )
+    where
+      breaks : ((y : ℕ) → ¬ BreaksC3 N y) → (a q : ℕ) → Clean N a q → Stable N a q → (y : ℕ) → isOutput N y ≡ true → (excitation N a q y ≡ 2) ⊎ (excitation N a q y ≡ 5) → ⊥
+      breaks f a q c s y o e = f y (record { output = o; input = a; state = q; clean = c; stable = s; excited = e })

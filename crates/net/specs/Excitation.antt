@@ -2,6 +2,7 @@
 use mathlib.Core.Bool.{Bool, cond, not, _&&_, _||_}
 use mathlib.Core.List.{List}
 use Prim.Native.Nat.{ℕ, suc}
+use lib.Dec.{eqb}
 use lib.ListN.{getD}
 use Rattle.net.specs.declared.Condition.{Condition}
 use Rattle.net.specs.declared.Condition.the-variants.{Open}
@@ -23,12 +24,16 @@ connected N a q k y b = connectedUnder N a q (conditions N a q) k y b
 
 -- n0, c0: an n-connection, a connection to 0. p1, c1: a p-connection, a connection to 1
 unfoldable pub excitationOf : Bool → Bool → Bool → Bool → ℕ
-excitationOf n0 c0 p1 c1 = cond (n0 && not c1) 0 (cond (p1 && not c0) 1 (cond (not c0 && not c1) 3 2))
+excitationOf n0 c0 p1 c1 = cond (n0 && not c1) 0 (cond (p1 && not c0) 1 (cond (not c0 && not c1) 3 (cond (c0 && c1) 5 2)))
 
 unfoldable pub excitation : Net → ℕ → ℕ → ℕ → ℕ
 excitation N a q y =
     let cs = conditions N a q in
     excitationOf (connectedUnder N a q cs NType y 0) (connectedUnder N a q cs Any y 0) (connectedUnder N a q cs PType y 1) (connectedUnder N a q cs Any y 1)
+
+-- 2, a weak drive, or 5, a fight: what C3 shuts out
+unfoldable pub uncertain : ℕ → Bool
+uncertain v = eqb v 2 || eqb v 5
 
 -- a closed edge between opposite inputs
 unfoldable pub edgeFights : Net → ℕ → ℕ → ℕ → Bool
@@ -39,7 +44,7 @@ edgeFights N a q i =
 
 -- a storage vertex connected to both values
 unfoldable pub vertexFights : Net → ℕ → ℕ → ℕ → Bool
-vertexFights N a q y = isStorage N y && connected N a q Any y 0 && connected N a q Any y 1
+vertexFights N a q y = isStorage N y && eqb (excitation N a q y) 5
 
 unfoldable pub fights : Net → ℕ → ℕ → Bool
 fights N a q =

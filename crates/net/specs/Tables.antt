@@ -12,7 +12,7 @@ use Rattle.net.specs.declared.Net.{Net}
 use Rattle.net.specs.declared.Symbol.{Symbol}
 use Rattle.net.specs.declared.Symbol.the-variants.{Constant, Letter, Vertex, Unknown}
 use Rattle.net.specs.Limits.{mostVertices, mostEdges}
-use Rattle.net.specs.Graph.{vertexAt, edgeAt, isInput, isStorage, isKey}
+use Rattle.net.specs.Graph.{vertexAt, edgeAt, isInput, isStorage, isOutput, isKey}
 use Rattle.net.specs.Symbols.{decode, isVariable, symbolBound}
 use Rattle.net.specs.Classes.{classes, inner, sameLabel}
 use Rattle.net.specs.Component.{components, isSignal}
@@ -27,6 +27,10 @@ pub record Readable (N : Net) : Type 0 where
 -- 1 at each storage vertex
 unfoldable pub storageFlags : Net → List ℕ
 storageFlags N = table (suc mostVertices) (λ v. digit (isStorage N v))
+
+-- 1 at each output
+unfoldable pub outputFlags : Net → List ℕ
+outputFlags N = table (suc mostVertices) (λ v. digit (isOutput N v))
 
 -- the components' labels; those of the vertices in use come first, as `components` has them
 unfoldable pub componentLabels : Net → List ℕ

@@ -33,7 +33,7 @@ Connection N a q k u v = Walk N (usable N a q k) u v
 abbrev pub Connects : Net → ℕ → ℕ → Kind → ℕ → ℕ → Type 0
 Connects N a q k y b = (x : ℕ) × (inputOf N a q b x ≡ true) × Connection N a q k y x
 
--- ---- excitation in document 01's words; otherwise it is 2 (`excitation-0` to `excitation-3` tie them to the value)
+-- ---- excitation in the words of documents 01 and 02; in no such case it is 2 (`excitation-0` to `excitation-5` tie them to the value)
 
 -- 0: an n-connection to an input vertex of value 0 and no connection to one of value 1
 abbrev pub ExcitedTo0 : Net → ℕ → ℕ → ℕ → Type 0
@@ -46,6 +46,10 @@ ExcitedTo1 N a q y = Connects N a q PType y 1 × (¬ Connects N a q Any y 0)
 -- 3: no connection to any input vertex
 abbrev pub Floating : Net → ℕ → ℕ → ℕ → Type 0
 Floating N a q y = ¬ ((x : ℕ) × (isInput N x ≡ true) × Connection N a q Any y x)
+
+-- 5: connections to input vertices of both values
+abbrev pub Fought : Net → ℕ → ℕ → ℕ → Type 0
+Fought N a q y = Connects N a q Any y 0 × Connects N a q Any y 1
 
 -- a connection between input vertices of values 0 and 1; one edge can be a fight
 pub record Fight (N : Net) (a q : ℕ) : Type 0 where

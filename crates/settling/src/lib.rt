@@ -23,8 +23,7 @@ pub fn settle<'a>(
         return job_tests::refused(Answer::BAD_RECORD, 0);
     }
     let mut excitations = [0u8; Net::VERTEX_LANES];
-    let mut fights = [0u8; Net::VERTEX_LANES];
-    match c1::lowest_break(net, &mut excitations, &mut fights) {
+    match c1::lowest_break(net, &mut excitations) {
         Found::At(place) => job_tests::refused(Answer::BREAKS_C1, place),
         Found::Nothing => sound_settling::settle(net, &excitations, old, new, start, r, t),
     }
@@ -46,8 +45,7 @@ pub fn batch<'a, 'b>(
         };
     }
     let mut excitations = [0u8; Net::VERTEX_LANES];
-    let mut fights = [0u8; Net::VERTEX_LANES];
-    match c1::lowest_break(net, &mut excitations, &mut fights) {
+    match c1::lowest_break(net, &mut excitations) {
         Found::At(place) => Answer {
             number: Answer::BREAKS_C1,
             place: place,

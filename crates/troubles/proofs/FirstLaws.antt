@@ -1,4 +1,4 @@
--- C1 by the table of excitations: a key node breaks it exactly if its row has an entry of 2 or 3.
+-- C1 by the table of excitations: a key node breaks it exactly if its row has an entry of 2, 3 or 5.
 use Prim.Native.Nat.{ℕ, suc, _<_}
 use mathlib.Core.Path.{_≡_}
 use mathlib.Core.Bool.{Bool, true, _&&_}
@@ -22,12 +22,12 @@ use Rattle.excitations.specs.Excitations.{excitationLanes}
 use Rattle.excitations.specs.Fit.{Fit}
 use Rattle.excitations.proofs.TableReads.{excitation-read, gather-below, excitation-entry}
 
--- the entry of row v at assignment w is 2 or 3
+-- the entry of row v at assignment w is 2, 3 or 5
 abbrev pub unsettled : Net → ℕ → ℕ → Bool
 unsettled N v w = leb 2 (lane (excitationLanes N) v w)
 
 module _ (N : Net) (fit : Fit N) where
-  -- a state that excites v to 2 or 3 has an entry in the row
+  -- a state that excites v to 2, 3 or 5 has an entry in the row
   there : (v : ℕ) → BreaksC1 N v → (isKey N v && anyBelow assignments (unsettled N v)) ≡ true
   there v b =
       let s = key-storage N v (b .key) in

@@ -1,13 +1,11 @@
 pub mod FitLaws
-pub mod MarkLaws
+pub mod EntryLaws
 pub mod ValueLaws
 pub mod RowLaws
 pub mod KeyReads
 pub mod EdgeReads
 pub mod FightLaws
 pub mod EdgeLaws
-pub mod TwoReads
-pub mod TwoLaws
 pub mod VertexLaws
 pub mod LowestLaws
 pub mod FirstLaws

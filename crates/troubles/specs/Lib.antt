@@ -1,3 +1,3 @@
-pub mod Marks
+pub mod Entries
 pub mod Edges
 pub mod Vertices

@@ -1,12 +1,10 @@
-//! The tables: excitations and fights of every storage vertex, in lanes. Definitions and laws are those of the crate `excitations`.
+//! The table of excitations: those of every storage vertex, in lanes. Definitions and laws are those of the crate `excitations`.
 use net::Kind;
 use net::Net;
 ghost use mathlib.Core.Path.{_≡_};
-ghost use mathlib.Core.Bool.{_&&_};
 ghost use Prim.Native.Nat.{suc, _*_};
 ghost use lib.Dec.{eqb};
 ghost use lib.ListN.{length, getD};
-ghost use Rattle.ternary.specs.Bits.{digit};
 ghost use Rattle.ternary.specs.Lists.{table};
 ghost use Rattle.net.specs.Limits.{mostVertices};
 ghost use Rattle.net.specs.Tables.{storageFlags, inputLabels};
@@ -15,7 +13,7 @@ ghost use Rattle.lanes.specs.Lanes.{assignments};
 ghost use Rattle.lanes.specs.Lanes as lane-spec;
 ghost use Rattle.excitations.specs.Fit.{Fit};
 ghost use Rattle.excitations.specs.Conditions.{signalPlaces};
-ghost use Rattle.excitations.specs.Excitations.{excitationLanes, fightLanes};
+ghost use Rattle.excitations.specs.Excitations.{excitationLanes};
 
 // Row p holds bit p of each assignment.
 fn columns() -> [u8; Net::COLUMN_LANES]
@@ -34,7 +32,7 @@ fn excited(n0: u8, c0: u8, p1: u8, c1: u8) -> u8
 {
     if c1 == 1 {
         if c0 == 1 {
-            return 2;
+            return 5;
         }
         return if p1 == 1 { 1 } else { 2 };
     }
@@ -63,21 +61,7 @@ fn combine<'a, 'b>(
     }
 }
 
-// 1 where both tables have 1.
-fn meet<'a, 'b>(
-    fights: &'a mut [u8; Net::VERTEX_LANES],
-    c0: &'b [u8; Net::VERTEX_LANES],
-    c1: &'b [u8; Net::VERTEX_LANES],
-)
-    requires { ⌜ length (now fights) ≡ suc mostVertices * assignments ⌝ }
-    ensures { λ r. ⌜ now (fights .exit) ≡ table (suc mostVertices * assignments) (λ i. digit (eqb (getD (now (c0 .entry)) i 0) 1 && eqb (getD (now (c1 .entry)) i 0) 1)) ⌝ }
-{
-    for i in 0..Net::VERTEX_LANES {
-        fights[i] = flags::both(c0[i], c1[i]);
-    }
-}
-
-// Both tables, from the tables of the graph, the places of the signals and the columns.
+// The table, from those of the graph, the places of the signals and the columns.
 fn fill_from<'a, 'b>(
     net: Net,
     storage: &'b [u8; Net::VERTEX_PLACES],
@@ -85,40 +69,48 @@ fn fill_from<'a, 'b>(
     places: &'b [u8; Net::SYMBOL_PLACES],
     columns: &'b [u8; Net::COLUMN_LANES],
     excitations: &'a mut [u8; Net::VERTEX_LANES],
-    fights: &'a mut [u8; Net::VERTEX_LANES],
 )
-    requires { ⌜ Fit net × (now storage ≡ storageFlags net) × (now inputs ≡ inputLabels net) × (now places ≡ signalPlaces net) × (now columns ≡ lane-spec.columns) × (length (now excitations) ≡ suc mostVertices * assignments) × (length (now fights) ≡ suc mostVertices * assignments) ⌝ }
-    ensures { λ r. ⌜ (now (excitations .exit) ≡ excitationLanes net) × (now (fights .exit) ≡ fightLanes net) ⌝ }
+    requires { ⌜ Fit net × (now storage ≡ storageFlags net) × (now inputs ≡ inputLabels net) × (now places ≡ signalPlaces net) × (now columns ≡ lane-spec.columns) × (length (now excitations) ≡ suc mostVertices * assignments) ⌝ }
+    ensures { λ r. ⌜ now (excitations .exit) ≡ excitationLanes net ⌝ }
 {
-    let c0 = connections::connected_lanes(net, storage, inputs, places, columns, Kind::Any, 0);
-    let c1 = connections::connected_lanes(net, storage, inputs, places, columns, Kind::Any, 1);
-    let n0 = connections::connected_lanes(net, storage, inputs, places, columns, Kind::NType, 0);
-    let p1 = connections::connected_lanes(net, storage, inputs, places, columns, Kind::PType, 1);
+    let mut c0 = [0u8; Net::VERTEX_LANES];
+    connections::connected_lanes(&mut c0, net, storage, inputs, places, columns, Kind::Any, 0);
+    let mut c1 = [0u8; Net::VERTEX_LANES];
+    connections::connected_lanes(&mut c1, net, storage, inputs, places, columns, Kind::Any, 1);
+    let mut n0 = [0u8; Net::VERTEX_LANES];
+    connections::connected_lanes(
+        &mut n0,
+        net,
+        storage,
+        inputs,
+        places,
+        columns,
+        Kind::NType,
+        0,
+    );
+    let mut p1 = [0u8; Net::VERTEX_LANES];
+    connections::connected_lanes(
+        &mut p1,
+        net,
+        storage,
+        inputs,
+        places,
+        columns,
+        Kind::PType,
+        1,
+    );
     combine(excitations, &n0, &c0, &p1, &c1);
-    meet(fights, &c0, &c1);
 }
 
-// The excitations and the fights of every storage vertex, at every assignment of its component's signals.
-pub fn fill<'a>(
-    net: Net,
-    excitations: &'a mut [u8; Net::VERTEX_LANES],
-    fights: &'a mut [u8; Net::VERTEX_LANES],
-)
-    requires { ⌜ Fit net × (length (now excitations) ≡ suc mostVertices * assignments) × (length (now fights) ≡ suc mostVertices * assignments) ⌝ }
-    ensures { λ r. ⌜ (now (excitations .exit) ≡ excitationLanes net) × (now (fights .exit) ≡ fightLanes net) ⌝ }
+// The excitations of every storage vertex, at every assignment of its component's signals.
+pub fn fill<'a>(net: Net, excitations: &'a mut [u8; Net::VERTEX_LANES])
+    requires { ⌜ Fit net × (length (now excitations) ≡ suc mostVertices * assignments) ⌝ }
+    ensures { λ r. ⌜ now (excitations .exit) ≡ excitationLanes net ⌝ }
 {
     let storage = graph::storage_flags(net);
     let labels = component_labels::component_labels(net, &storage);
     let inputs = signals::input_labels(net);
     let places = signal_places::signal_places(net, &storage, &labels);
     let columns = columns();
-    fill_from(
-        net,
-        &storage,
-        &inputs,
-        &places,
-        &columns,
-        excitations,
-        fights,
-    );
+    fill_from(net, &storage, &inputs, &places, &columns, excitations);
 }

@@ -5,10 +5,11 @@ use mathlib.Core.Bool.{Bool, true, false, not, _&&_}
 use mathlib.Core.List.{List}
 use lib.Dec.{eqb, ltb}
 use Rattle.net.specs.declared.Net.{Net}
-use Rattle.net.specs.Graph.{isKey, isOutput, isStorage, hasRole, keyCount, keyVertex}
-use Rattle.net.specs.Excitation.{excitation}
+use Rattle.net.specs.Graph.{isKey, isOutput, keyCount, keyVertex}
+use Rattle.net.specs.Excitation.{excitation, uncertain}
 use Rattle.net.specs.Network.{network, stable}
 use Rattle.net.specs.WellFormed.{everyState, breaksC1, placeC1, testC2, breaksC3, placeC3}
+use Rattle.net.proofs.Classes.{output-storage}
 use Rattle.net.proofs.Keys.{key-at, key-storage}
 use Rattle.ternary.specs.Bits.{bit}
 use Rattle.ternary.specs.Lists.{table, allBelow, leastBelow}
@@ -17,7 +18,6 @@ use Rattle.ternary.specs.Excitation.{agreed, common, H}
 use Rattle.ternary.specs.Passes as passes
 use Rattle.net.specs.Ternary.{settled}
 use Rattle.ternary.specs.Run.{isStable}
-use Rattle.ternary.proofs.Tests.{or-right}
 use Rattle.ternary.proofs.ListLaws.{all-ext, table-ext}
 use Rattle.writer.specs.SameNet.{SameNet}
 use Rattle.writer.proofs.SameGraph.{same-among, same-role, same-key, same-key-count, same-key-vertex, same-excitation, same-fights}
@@ -26,10 +26,6 @@ use Rattle.writer.proofs.SameGraph.{same-among, same-role, same-key, sa
 guarded : (b x y : Bool) → (b ≡ true → x ≡ y) → (b && x) ≡ (b && y)
 guarded true x y f = f refl
 guarded false x y f = refl
-
-output-storage : (N : Net) (y : ℕ) → isOutput N y ≡ true → isStorage N y ≡ true
-unfolding isStorage
-output-storage N y e = or-right (hasRole N y 1) _ e
 
 module _ {M N : Net} (s : SameNet M N) where
   pub same-network : (a q k : ℕ) → k < keyCount M → network M a q k ≡ network N a q k
@@ -62,8 +58,8 @@ module _ {M N : Net} (s : SameNet M N) where
   unfolding breaksC3
   same-breaks-c3 y =
       guarded (isOutput M y) _ _
-      (λ o. ap not (same-states _ _ (λ a q. ap₂ (λ (b : Bool) (x : ℕ). not (b && eqb x 2)) (same-stable a q) (same-excitation s a q y (output-storage M y o)))))
-      ∙ ap (λ (b : Bool). b && not (everyState N (λ a q. not (stable N a q && eqb (excitation N a q y) 2)))) (same-role (same-among s) y 2)
+      (λ o. ap not (same-states _ _ (λ a q. ap₂ (λ (b : Bool) (x : ℕ). not (b && uncertain x)) (same-stable a q) (same-excitation s a q y (output-storage M y o)))))
+      ∙ ap (λ (b : Bool). b && not (everyState N (λ a q. not (stable N a q && uncertain (excitation N a q y))))) (same-role (same-among s) y 2)
 
   pub same-place-c3 : placeC3 M ≡ placeC3 N
   unfolding placeC3

@@ -23,10 +23,10 @@ use Rattle.connections.proofs.driven.Statement.{statement}
 use Rattle.connections.proofs.driven.Tie as tie
 
 abbrev Inv-loop : tie.InvT-loop
-Inv-loop storage inputs places columns on value net marks₀ count i₀ marks i = (i ≤ count) × (marks ≡ firstDriven net on value i)
+Inv-loop marks₀ storage inputs places columns on value net count i₀ marks i = (i ≤ count) × (marks ≡ firstDriven net on value i)
 
 abbrev μ-loop : tie.MeasureT-loop
-μ-loop storage inputs places columns on value net marks₀ count i₀ marks i = count - i
+μ-loop marks₀ storage inputs places columns on value net count i₀ marks i = count - i
 
 -- places of the run, each found from the next: the start, the turn of the loop, the choice of x after that of y, the tests of both, the place of the signal
 abbrev start : tie.In-loop Inv-loop μ-loop → tie.Start Inv-loop μ-loop
@@ -44,28 +44,28 @@ y-tested c = c .before .before
 abbrev x-tested : tie.After-p Inv-loop μ-loop → tie.Then2 Inv-loop μ-loop
 x-tested c = c .before .before
 
-abbrev placed : tie.After-marks Inv-loop μ-loop → tie.After-p Inv-loop μ-loop
+abbrev placed : tie.After-mark-row-arg Inv-loop μ-loop → tie.After-p Inv-loop μ-loop
 placed c = c .before .before .before
 
 -- the first end of edge i
-first-end : (c : tie.In-loop Inv-loop μ-loop) → (getD (start c .args .t1 .edges) (c .before .loop .i) noEdge) .end1 ≤ mostVertices
+first-end : (c : tie.In-loop Inv-loop μ-loop) → (getD (start c .args .t2 .edges) (c .before .loop .i) noEdge) .end1 ≤ mostVertices
 unfolding edgeAt
 first-end c = start c .pre .0 .readable .first-end (c .before .loop .i) (c .loop-test .taken)
 
 -- the ends that are chosen
-owned : (c : tie.After-chosen Inv-loop μ-loop) → (let t = in-loop (c .before) in let N = start t .args .t1 in c .chosen .result ≡ owner N (edgeAt N (t .before .loop .i)))
+owned : (c : tie.After-chosen Inv-loop μ-loop) → (let t = in-loop (c .before) in let N = start t .args .t2 in c .chosen .result ≡ owner N (edgeAt N (t .before .loop .i)))
 unfolding edgeAt
 owned c =
     let t = in-loop (c .before) in
     let s = start t in
-    c .chosen .ensures ∙ owner-chosen (s .args .t1) (s .args .storage .now) (s .pre .1) _ (first-end t)
+    c .chosen .ensures ∙ owner-chosen (s .args .t2) (s .args .storage .now) (s .pre .1) _ (first-end t)
 
-opposite : (c : tie.After-chosen2 Inv-loop μ-loop) → (let t = in-loop (c .before .before) in let N = start t .args .t1 in c .chosen2 .result ≡ other N (edgeAt N (t .before .loop .i)))
+opposite : (c : tie.After-chosen2 Inv-loop μ-loop) → (let t = in-loop (c .before .before) in let N = start t .args .t2 in c .chosen2 .result ≡ other N (edgeAt N (t .before .loop .i)))
 unfolding edgeAt
 opposite c =
     let t = in-loop (c .before .before) in
     let s = start t in
-    c .chosen2 .ensures ∙ other-chosen (s .args .t1) (s .args .storage .now) (s .pre .1) _ (first-end t)
+    c .chosen2 .ensures ∙ other-chosen (s .args .t2) (s .args .storage .now) (s .pre .1) _ (first-end t)
 
 -- both stand in a table of vertices
 y-range : (c : tie.After-chosen Inv-loop μ-loop) → c .chosen .result ≤ mostVertices
@@ -79,25 +79,25 @@ x-range c =
     rw (opposite c) (other-range _ (start t .pre .0 .readable) (t .before .loop .i) (t .loop-test .taken))
 
 -- the flags that the loop tests
-y-storage : (c : tie.After-chosen2 Inv-loop μ-loop) → (let t = in-loop (c .before .before) in let s = start t in let N = s .args .t1 in
+y-storage : (c : tie.After-chosen2 Inv-loop μ-loop) → (let t = in-loop (c .before .before) in let s = start t in let N = s .args .t2 in
     isStorage N (owner N (edgeAt N (t .before .loop .i))) ≡ eqb (getD (s .args .storage .now) (c .before .chosen .result) 0) 1)
 y-storage c =
     let y = c .before in
     rw (← owned y) (sym (storage-test _ _ (start (in-loop (y .before)) .pre .1) (y .chosen .result) (y-range y)))
 
-x-storage : (c : tie.After-chosen2 Inv-loop μ-loop) → (let t = in-loop (c .before .before) in let s = start t in let N = s .args .t1 in
+x-storage : (c : tie.After-chosen2 Inv-loop μ-loop) → (let t = in-loop (c .before .before) in let s = start t in let N = s .args .t2 in
     isStorage N (other N (edgeAt N (t .before .loop .i))) ≡ eqb (getD (s .args .storage .now) (c .chosen2 .result) 0) 1)
 x-storage c = rw (← opposite c) (sym (storage-test _ _ (start (in-loop (c .before .before)) .pre .1) (c .chosen2 .result) (x-range c)))
 
 -- the label opposite, and the place of its signal
-label : (c : tie.After-chosen2 Inv-loop μ-loop) → (let t = in-loop (c .before .before) in let s = start t in let N = s .args .t1 in let i = t .before .loop .i in
+label : (c : tie.After-chosen2 Inv-loop μ-loop) → (let t = in-loop (c .before .before) in let s = start t in let N = s .args .t2 in let i = t .before .loop .i in
     isStorage N (other N (edgeAt N i)) ≡ false → getD (s .args .inputs .now) (c .chosen2 .result) 0 ≡ labelOf N i)
 label c sx =
     let t = in-loop (c .before .before) in
     let s = start t in
     label-read _ (s .pre .0) (t .before .loop .i) (t .loop-test .taken) sx (s .pre .2) (opposite c)
 
-place : (c : tie.After-chosen2 Inv-loop μ-loop) → (let t = in-loop (c .before .before) in let s = start t in let N = s .args .t1 in let i = t .before .loop .i in
+place : (c : tie.After-chosen2 Inv-loop μ-loop) → (let t = in-loop (c .before .before) in let s = start t in let N = s .args .t2 in let i = t .before .loop .i in
     isStorage N (owner N (edgeAt N i)) ≡ true → isStorage N (other N (edgeAt N i)) ≡ false
     → getD (s .args .places .now) (c .before .chosen .result * symbolBound + getD (s .args .inputs .now) (c .chosen2 .result) 0) 0 ≡ signalIndex N (owner N (edgeAt N i)) (labelOf N i))
 place c sy sx =
@@ -108,7 +108,7 @@ place c sy sx =
     ∙ rw (owned (c .before), label c sx) (place-read _ _ _ sy (owner-range _ (s .pre .0 .readable) i (t .loop-test .taken)) (label-small _ (s .pre .0) i (t .loop-test .taken) sx))
 
 -- what both tests tell
-tested : (c : tie.Then2 Inv-loop μ-loop) → (let t = in-loop (x-chosen (y-tested c) .before .before) in let N = start t .args .t1 in let i = t .before .loop .i in
+tested : (c : tie.Then2 Inv-loop μ-loop) → (let t = in-loop (x-chosen (y-tested c) .before .before) in let N = start t .args .t2 in let i = t .before .loop .i in
     (isStorage N (owner N (edgeAt N i)) ≡ true) × (isStorage N (other N (edgeAt N i)) ≡ false))
 tested c =
     let k = x-chosen (y-tested c) in
@@ -137,7 +137,7 @@ cast-count : tie.Need-cast-count Inv-loop μ-loop
 cast-count c = search needs
 
 loop-holds : tie.Need-loop-holds Inv-loop μ-loop
-loop-holds c = (search needs, driven-none _ _ _)
+loop-holds c = (search needs, c .pre .5 ∙ driven-none _ _ _)
 
 mul-edge : tie.Need-mul-edge Inv-loop μ-loop
 mul-edge c = omega (arith, start c .pre .0 .readable .edges)
@@ -199,9 +199,6 @@ label-hits-requires c κs = search needs
 label-hits-requires-2 : tie.Need-label-hits-requires-2 Inv-loop μ-loop
 label-hits-requires-2 c κs = search needs
 
-slice-aggregate-mark-row : tie.Need-slice-aggregate-mark-row Inv-loop μ-loop
-slice-aggregate-mark-row c = sym (size (in-loop (x-chosen (y-tested (x-tested (placed c))) .before .before)))
-
 cast-mark-row : tie.Need-cast-mark-row Inv-loop μ-loop
 cast-mark-row c = omega (arith, place-few (x-tested (placed (c .before))))
 
@@ -212,7 +209,7 @@ mark-row-requires c κs =
     let t = in-loop (y .before) in
     let s = start t in (
       omega (arith, size t, y-range y),
-      omega (arith, c .mark-row-arg .given .0, s .pre .0 .readable .edges),
+      omega (arith, c .mark-row-arg2 .given .0, s .pre .0 .readable .edges),
       place-few k,
       s .pre .4,
     )
@@ -235,10 +232,10 @@ loop-again c =
           (λ w.
           let sy = y-storage k ∙ eq-eqb _ _ (w .0 .taken) in
           let sx = x-storage k ∙ not-true _ (w .2 .taken) in
-          w .11 ∙ driven-step (s .args .t1) (s .args .on .now) (s .args .value) (s .pre .0) i (t .loop-test .taken) sy sx (owned (k .before)) (label k sx) (place k sy sx) (w .5 .ensures) (w .6 .ensures) e (w .9 .ensures))
+          w .10 ∙ driven-step (s .args .t2) (s .args .on .now) (s .args .value) (s .pre .0) i (t .loop-test .taken) sy sx (owned (k .before)) (label k sx) (place k sy sx) (w .5 .ensures) (w .6 .ensures) e (w .9 .ensures))
           (λ w. w .1 ∙ ⊎-elim
-          (λ v. driven-inner (s .args .t1) (s .args .on .now) (s .args .value) i (x-storage k ∙ not-false _ (v .2 .left)) e)
-          (λ v. driven-outer (s .args .t1) (s .args .on .now) (s .args .value) i (y-storage k ∙ ne-eqb _ _ (v .left)) e)
+          (λ v. driven-inner (s .args .t2) (s .args .on .now) (s .args .value) i (x-storage k ∙ not-false _ (v .2 .left)) e)
+          (λ v. driven-outer (s .args .t2) (s .args .on .now) (s .args .value) i (y-storage k ∙ ne-eqb _ _ (v .left)) e)
           (w .0 .came))
           (c .if1 .came),
     )
@@ -246,7 +243,7 @@ loop-again c =
 returns : tie.Need-returns Inv-loop μ-loop
 returns c =
     let s = c .before .before in
-    let q : c .before .loop .i ≡ s .args .t1 .«edge_count» = omega arith in
+    let q : c .before .loop .i ≡ s .args .t2 .«edge_count» = omega arith in
     rw q at (c .before .loop .inv .1) ∙ driven-all _ _ _
 
 pub driven-spec : {M : Type 1} → statement M
@@ -277,7 +274,6 @@ driven-spec =
     element-copy-out-p
     label-hits-requires
     label-hits-requires-2
-    slice-aggregate-mark-row
     cast-mark-row
     mark-row-requires
     add-i

@@ -30,12 +30,12 @@ list c = c .before .before
 abbrev letters : tie.After-key-part → tie.After-letter-part
 letters c = c .before .before
 
--- the two tables of the vertices, made before all others
+-- the table of excitations, made before all others
 abbrev filled : tie.After-component-labels → tie.After-fill
 filled c = storage c .before
 
 abbrev start : tie.After-component-labels → tie.Start
-start c = filled c .before .before .before
+start c = filled c .before .before
 
 -- the first two tables are the net's
 ready : (c : tie.After-component-labels) → Prepared (start c .args .net) (storage c .storage-flags .result) (c .component-labels .result)
@@ -101,7 +101,7 @@ returns c =
     let w = list t in
     let l = labels (places (keys w)) in
     let s = start l in
-    value-read _ (s .pre .0) _ (s .pre .1) _ _ (w .weights .ensures) (t .letter-part .ensures) (c .key-part .ensures) (filled l .fill .ensures .0)
+    value-read _ (s .pre .0) _ (s .pre .1) _ _ (w .weights .ensures) (t .letter-part .ensures) (c .key-part .ensures) (filled l .fill .ensures)
 
 pub value-spec : {M : Type 1} → statement M
 value-spec =
