@@ -1,5 +1,5 @@
 -- Ternary excitation of an abstract network: L letters, h key nodes, and an excitation F that takes an input state, a key state and a key node
--- (counted from 0) to 0, 1, 2 or 3. Assumes nothing.
+-- (counted from 0) to its value, of which only 0 and 1 are looked for. Assumes nothing.
 use Prim.Native.Nat.{ℕ, _^_, _<_}
 use mathlib.Core.Path.{_≡_}
 use mathlib.Core.Logic.{_⊎_, _≢_}
@@ -34,7 +34,7 @@ module _ (F : ℕ → ℕ → ℕ → ℕ) where
   unfoldable pub H : ℕ → List ℕ → List ℕ → List ℕ
   H h p r = table h (common p r)
 
--- C1: no key node is ever excited to 2 or 3
+-- C1: every key node is always excited to 0 or 1
 abbrev pub C1 : ℕ → ℕ → (ℕ → ℕ → ℕ → ℕ) → Type 0
 C1 L h F = (a q k : ℕ) → a < 2 ^ L → q < 2 ^ h → k < h → (F a q k ≡ 0) ⊎ (F a q k ≡ 1)
 

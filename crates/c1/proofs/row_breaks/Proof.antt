@@ -1,4 +1,4 @@
--- `c1::row_breaks` meets its contract: found tells whether an entry before w is 2 or 3. Assumes nothing.
+-- `c1::row_breaks` meets its contract: found tells whether an entry before w is 2, 3 or 5. Assumes nothing.
 use native.Mathlib.Omega.{arith}
 use borrow.Author.Needs.{needs}
 use mathlib.Core.Path.{_≡_, refl}
