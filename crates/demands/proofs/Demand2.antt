@@ -14,9 +14,11 @@ use Rattle.net.specs.Graph.{isStorage, keyCount}
 use Rattle.net.specs.Excitation.{excitation}
 use Rattle.net.specs.Network.{network, Clean}
 use Rattle.net.specs.WellFormed.{C1, C2, WellFormed, LowestC1, LowestC3}
+use Rattle.net.specs.FourValues.{AsBefore}
 use Rattle.net.specs.Known.{Known}
 use Rattle.net.specs.Ternary.{settled}
 use Rattle.net.proofs.Connected.{excitation-0, excitation-1, excitation-2, excitation-3, excitation-5}
+use Rattle.net.proofs.FourValues.{as-before}
 use Rattle.net.proofs.TernaryLaws.{first-pass-unknown, second-pass-unknown}
 use Rattle.sheet.specs.Limits.{fieldWidth}
 use Rattle.sheet.specs.Rows.{answer}
@@ -57,6 +59,10 @@ module _ (sheet : List ℕ) (N : Net) (reads : readSheet sheet ≡ accepted N) w
       otherwise = excitation-2 N a q y s;
     },
   )
+
+  -- document 01's four values, and that what follows from them stays
+  pub demand2-as-before : AsBefore N
+  demand2-as-before = as-before N
 
   -- the verdict: 0 exactly if C1 to C3 hold over all clean states
   pub demand2-well-formed : (verdictOf N .number ≡ 0) ↔ WellFormed N

@@ -130,7 +130,28 @@ weak-c3 : placeC3 weak ≡ some 3
 unfolding model weak
 weak-c3 = refl
 
--- the counterexample to the report's Proposition 3.2: a p-path to 1 beside a weak connection to 0; key node 1 is 2 at key state 0
+-- fights: output 3 is joined firmly to both values, 4 weakly to both, and 5 to both through 4 alone; 6 is joined to 1 alone, weakly
+fought : Net
+unfolding net
+fought =
+    net (vertex 0 0 ∷ vertex 0 1 ∷ vertex 2 0 ∷ vertex 1 0 ∷ vertex 1 0 ∷ vertex 1 0 ∷ [])
+    (edge 3 1 0 1 ∷ edge 3 2 1 0 ∷ edge 4 1 1 0 ∷ edge 4 2 0 1 ∷ edge 5 4 0 1 ∷ edge 6 2 0 1 ∷ [])
+    0
+
+fought-table : map (excitation fought 0 0) (3 ∷ 4 ∷ 5 ∷ 6 ∷ []) ≡ 5 ∷ 5 ∷ 5 ∷ 2 ∷ []
+unfolding model fought
+fought-table = refl
+
+-- C2 is broken, and C3 as well, which shuts out 5 at an output
+fought-c2 : testC2 fought ≡ false
+unfolding model fought
+fought-c2 = refl
+
+fought-c3 : placeC3 fought ≡ some 3
+unfolding model fought
+fought-c3 = refl
+
+-- the counterexample to the report's Proposition 3.2: a p-path to 1 beside a weak connection to 0; key node 1 is 5 at key state 0
 beside : Net
 unfolding net
 beside =

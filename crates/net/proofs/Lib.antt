@@ -24,3 +24,4 @@ pub mod SignalTable
 pub mod SignalLists
 pub mod LocalFights
 pub mod TernaryLaws
+pub mod FourValues

@@ -12,3 +12,4 @@ pub mod Tables
 pub mod Network
 pub mod WellFormed
 pub mod Ternary
+pub mod FourValues
