@@ -10,8 +10,12 @@ use Rattle.settlements.proofs.SettleSteps.{bad-record, breaks-c1}
 use Rattle.settling.proofs.settle.Statement.{statement}
 use Rattle.settling.proofs.settle.Tie as tie
 
+-- the start, before the lent buffers are taken up
+abbrev start : tie.After-slice-known2 → tie.Start
+start c = c .before .before
+
 -- the record has passed
-valid-record : (c : tie.Else1) → valid (c .before .before .before .before .args .net) ≡ true
+valid-record : (c : tie.Else1) → valid (start (c .before .before) .args .net) ≡ true
 valid-record c = sym (c .before .is-record .ensures) ∙ not-false _ (c .if1 .left)
 
 is-record-requires : tie.Need-is-record-requires

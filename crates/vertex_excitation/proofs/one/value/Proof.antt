@@ -21,8 +21,11 @@ labels c = c .before .before .before
 abbrev places : tie.After-key-vertices → tie.After-signal-places
 places c = c .before
 
+abbrev lent : tie.After-places → tie.After-key-vertices
+lent c = c .before .before .before
+
 abbrev keys : tie.After-weights → tie.After-key-vertices
-keys c = c .before .before .before .before .before
+keys c = lent (c .before .before)
 
 abbrev list : tie.After-letter-part → tie.After-weights
 list c = c .before .before
@@ -70,7 +73,7 @@ key-vertices-requires c κs = search needs
 
 weights-requires : tie.Need-weights-requires
 weights-requires c κs =
-    let k = c .before .before .before .before in
+    let k = lent (c .before) in
     let p = places k in
     let l = labels p in
     let s = start l in (s .pre .0, ready l, p .signal-places .ensures, k .key-vertices .ensures, s .pre .1)
