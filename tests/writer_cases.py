@@ -1,12 +1,12 @@
 #!/usr/bin/env python3
-"""Cases for the writer of a record's sheet, with the answers that requests C-11 and C-16 and document 01 ask for.
+"""Cases for the writer of a record's sheet, with the answers that request C-11 and document 01 ask for.
 
 Each case has a note: the words of C-11 that decide it (turning: the lower end of an edge comes first; order: low end, high end, form, symbol; vertices: as
 numbered; equal bytes: for records that differ in the order of edges and of ends alone; once more: reading what was written and writing it; length: the
-answer's last number; beyond: bytes that are not written stay; row 51: the buffer is shorter than the sheet), those of C-16 (a record with a false table gets
-41, and so does an edited net with its old tables), or document 01's row; for the text of the program `write_net` also docs/DECISIONS.md, point 99. Running
-this file writes the input and the expected output of the test program `writer_cases`. Numbers and sheets are worked out here by hand, those at the limits by
-how the drawings are made; writer_model.py then works each of them out from the definitions, and a difference stops the run. None is taken from the program.
+answer's last number; beyond: bytes that are not written stay; row 51: the buffer is shorter than the sheet), or document 01's row; for the text of the
+program `write_net` also docs/DECISIONS.md, point 99. Running this file writes the input and the expected output of the test program `writer_cases`. Numbers
+and sheets are worked out here by hand, those at the limits by how the drawings are made; writer_model.py then works each of them out from the definitions,
+and a difference stops the run. None is taken from the program.
 
 The kinds of cases, and what the program prints for each before the note:
   N  a sheet, kept for the cases that follow it: the reader's number and place;
@@ -15,14 +15,14 @@ The kinds of cases, and what the program prints for each before the note:
   A  the same of the record that is read back from what was written in the agreed order;
   T  the text of the program for the sheet: how many bytes are written, none where the lent buffer is short; from the next line on these.
 
-The numbers of a case are the size of the lent buffer and, where a record is written, what is altered in its net before: a part of it, the place, counted from
-0, and the value. The tables stay as they were read.
+The numbers of a case are the size of the lent buffer and, where a record is written, what is altered in it before: a part of it, the place, counted from 0,
+and the value.
 """
 import copy
 
 from case_files import case, store
 from sheets import *
-from writer_model import EMPTY, Record
+from writer_model import Record
 
 AGREED, OWN, AGAIN = b"W", b"O", b"A"
 UNTOUCHED = b"?"
@@ -31,6 +31,9 @@ MOST_BYTES = 6069
 
 # The parts of a record that a case may alter.
 LABEL, SYMBOL, VERTEX_COUNT, EDGE_COUNT, LETTER_COUNT = range(1, 6)
+
+# Under a refusal every number of the record is 0.
+EMPTY = Record(line(0, 0, 0, 0, 0))
 
 RECORD = EMPTY  # the model of the sheet in force
 ANSWER = None  # and the number and place of its refusal
@@ -45,12 +48,12 @@ def net(note, data, refusal=0, place=0):
 
 
 def altered(record, part, place, value):
-    if part == LABEL:
-        return record.with_label(place, value)
-    if part == SYMBOL:
-        return record.with_symbol(place, value)
     out = copy.deepcopy(record)
-    if part == VERTEX_COUNT:
+    if part == LABEL:
+        out.vertices[place] = (out.vertices[place][0], value)
+    elif part == SYMBOL:
+        out.edges[place] = (*out.edges[place][:3], value)
+    elif part == VERTEX_COUNT:
         out.vertex_count = value
     elif part == EDGE_COUNT:
         out.edge_count = value
@@ -297,19 +300,14 @@ written(WORKED_AGREED.replace(b"   1   4   4   1   1\n", b"   1   4   4   2   1\
 written(WORKED_AGREED.replace(b"   1   4   4   1   1\n", b"   1   5   4   1   1\n").replace(
     b"   2   4   1   0   0\n", b"   2   4   1   0   0\n   2   5   0   0   0\n"),
         "a record of a sheet: the place of vertex 5 is that of an input vertex that carries 0", part=VERTEX_COUNT, value=5)
-refused(41, "row 41 by C-16: vertex 1 carries the letter, so with both at 1 key node 3 is excited to 2, and its old table has 0", 200,
+written(WORKED_AGREED.replace(b"   2   1   0   0   0\n", b"   2   1   0  11   0\n"), "a record of a sheet: vertex 1 carries the letter",
         part=LABEL, place=0, value=11)
-refused(41, "row 41 by C-16: the second edge under vertex 4, which is a key node then, and the old tables have no table of it", 200,
-        part=SYMBOL, place=1, value=104)
-net("document 01's net with the letter at vertex 1", WORKED.replace(b"   2   1   0   0   0\n", b"   2   1   0  11   0\n"))
-written(WORKED_AGREED.replace(b"   2   1   0   0   0\n", b"   2   1   0  11   0\n"), "a record of a sheet: read with that label, its tables are its own")
-net("document 01's net with its second edge under vertex 4", WORKED.replace(b"   3   2   3   1 103\n", b"   3   2   3   1 104\n"))
 written(b"   1   4   4   1   1\n" + KIND_LINES + b"""\
    3   1   4   0 103
    3   2   3   1  11
    3   2   3   1 104
    3   3   4   0  11
-""", "a record of a sheet: read with that symbol, its tables are its own")
+""", "a record of a sheet: the second edge under vertex 4", part=SYMBOL, place=1, value=104)
 
 net("a transmission gate under letter 1, with an edge under letter 2 beside it",
     sheet(2, KINDS, [(1, 3, N, letter(2))] + pass_on(4, 3, letter(1))))

@@ -1,14 +1,12 @@
-"""A plain model of requests C-11 and C-16, to check the sheets that are written out by hand: a record with its tables, whether some accepted sheet gives it,
-and its sheet in the agreed order and in its own. It reads no sheet that the reader refuses.
+"""A plain model of request C-11, to check the sheets that are written out by hand: a record, whether some accepted sheet gives it, and its sheet in the
+agreed order and in its own. It reads no sheet that the reader refuses.
 """
-import copy
 from collections import Counter
 
 import settle_model
-from settle_model import MOST_KEY_NODES, MOST_SIGNALS
-from sheets import line, sheet
+from sheets import sheet
 
-MOST_VERTICES, MOST_EDGES, MOST_LETTERS = 96, 192, 8
+MOST_VERTICES, MOST_EDGES, MOST_LETTERS, MOST_KEY_NODES, MOST_SIGNALS = 96, 192, 8, 12, 8
 INPUT = 0
 ROLES = 3
 FORMS = 4
@@ -17,7 +15,7 @@ PARTNER = {2: 1, 3: 0}
 
 
 class Record:
-    """The three counts, every vertex place and edge place, those that are not in use being zero, and the tables of the key nodes."""
+    """The three counts, and every vertex place and edge place; those that are not in use are zero."""
 
     def __init__(self, data):
         header, *rows = [[int(row[i:i + 4]) for i in range(0, 20, 4)] for row in data.decode().splitlines()]
@@ -25,7 +23,6 @@ class Record:
         vertices, edges = rows[:self.vertex_count], rows[self.vertex_count:]
         self.vertices = [tuple(row[2:4]) for row in vertices] + [(0, 0)] * (MOST_VERTICES - len(vertices))
         self.edges = [tuple(row[1:]) for row in edges] + [(0, 0, 0, 0)] * (MOST_EDGES - len(edges))
-        self.tables = settle_model.Net(data).tables()
 
     def own(self):
         """The sheet in the record's own order."""
@@ -36,26 +33,13 @@ class Record:
         turned = [(min(a, b), max(a, b), form, symbol) for a, b, form, symbol in self.edges[:self.edge_count]]
         return sheet(self.letter_count, self.vertices[:self.vertex_count], sorted(turned))
 
-    def with_label(self, place, value):
-        """Another label at a vertex place, counted from 0; the tables stay."""
-        out = copy.deepcopy(self)
-        out.vertices[place] = (out.vertices[place][0], value)
-        return out
-
-    def with_symbol(self, place, value):
-        """Another symbol at an edge place, counted from 0; the tables stay."""
-        out = copy.deepcopy(self)
-        out.edges[place] = (*out.edges[place][:3], value)
-        return out
-
     def is_accepted(self):
-        """Is it the record of an accepted sheet? The rows are those of document 01, as request C-13 has row 21; what is not in use is zero, and the tables
-        are true (request C-16)."""
+        """Is it the record of an accepted sheet? The rows are those of document 01, as request C-13 has row 21; what is not in use is zero."""
         return (1 <= self.vertex_count <= MOST_VERTICES and self.edge_count <= MOST_EDGES and self.letter_count <= MOST_LETTERS
                 and all(self.allows_vertex(*v) for v in self.vertices[:self.vertex_count])
                 and all(self.allows_edge(*e) for e in self.edges[:self.edge_count])
                 and not any(map(any, self.vertices[self.vertex_count:] + self.edges[self.edge_count:]))
-                and self.is_paired() and self.allows_signals() and self.tables == self.net().tables())
+                and self.is_paired() and self.allows_signals())
 
     def is_label(self, symbol):
         return symbol in (0, 1) or 11 <= symbol <= 10 + self.letter_count
@@ -75,14 +59,6 @@ class Record:
         drawn = Counter((frozenset((a, b)), symbol, form) for a, b, form, symbol in self.edges[:self.edge_count])
         return all(many <= drawn.get((ends, symbol, PARTNER[form]), 0) for (ends, symbol, form), many in drawn.items() if form in PARTNER)
 
-    def net(self):
-        """The model of what the net means."""
-        return settle_model.Net(self.own())
-
     def allows_signals(self):
-        net = self.net()
+        net = settle_model.Net(self.own())
         return len(net.keys) <= MOST_KEY_NODES and all(len(net.component_signals(y)) <= MOST_SIGNALS for y in net.storage)
-
-
-# Under a refusal every number of the record is 0.
-EMPTY = Record(line(0, 0, 0, 0, 0))

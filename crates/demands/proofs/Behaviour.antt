@@ -13,13 +13,13 @@ use Rattle.net.specs.declared.Net.{Net}
 use Rattle.sheet.specs.declared.Answer.{Answer}
 use Rattle.sheet.specs.declared.JobLine.{JobLine}
 use Rattle.sheet.specs.declared.JobLine.TheVariants.{Asked, Refused}
-use Rattle.sheet.specs.Rows.{answer, Row, row, when, by_rows_lem}
+use Rattle.sheet.specs.Rows.{answer, Row, row, when, by_rows}
 use Rattle.sheet.specs.Job.{job_of, job_number}
 use Rattle.sheet.specs.Valid.{valid}
 use Rattle.soundness.specs.Verdict.{verdict_rows, verdict_of}
 use Rattle.settlements.specs.Settle.{Settlement, settling, settlement, unsettled, written, settle_under, settle_rows, settle_of}
 use Rattle.settlements.specs.Batch.{job_count, pieces, job_width, answer_width, job_rows, job_settlement, Buffers, run_jobs, Batch, batched, batch_rows, batch_of}
-use Rattle.output.specs.Output.{goes_on_lem, batch_for, net_text}
+use Rattle.output.specs.Output.{goes_on, batch_for, net_text}
 use Rattle.output.specs.Text.{job_texts}
 use Rattle.writer.specs.SameNet.{SameNet}
 use Rattle.writer.proofs.SameGraph.{same_among, same_storage, same_keys, same-key_count, same-excitation}
@@ -39,7 +39,7 @@ module _ {M N : Net} (s : SameNet M N) where
   unfolding job_settlement job_rows settle_under written
   same_job (Asked A B q) own =
       let by : ℕ → ℕ → Bool → Settled → Settlement =
-      λ L h stable p. by_rows_lem (states A B q L h (row 44 (when (not stable)) ∷ [])) (passed h p (take h own) (drop h own)) (λ a. unsettled a (take h own) (drop h own)) in
+      λ L h stable p. by_rows (states A B q L h (row 44 (when (not stable)) ∷ [])) (passed h p (take h own) (drop h own)) (λ a. unsettled a (take h own) (drop h own)) in
       λ i. by (s.letter_count i) (same-key_count s i) (same-stable s A q i) (same-settled s A B q i)
   same_job Refused own = ap (λ (h : ℕ). unsettled (answer (job_number Refused) 0) (take h own) (drop h own)) (same-key_count s)
 
@@ -76,7 +76,7 @@ module _ {M N : Net} (s : SameNet M N) (valid-m : valid M ≡ true) (valid-n : v
       let by : Bool → Option ℕ → ℕ → ℕ → Bool → Settled → Settlement =
       λ v c1 L h stable p.
       let short = row 45 (when (ltb (length R) h || ltb (length T) h)) in
-      by_rows_lem (row 41 (when (not v)) ∷ row 31 c1 ∷ states A B q L h (short ∷ row 44 (when (not stable)) ∷ [])) (passed h p R T) (λ a. unsettled a R T) in
+      by_rows (row 41 (when (not v)) ∷ row 31 c1 ∷ states A B q L h (short ∷ row 44 (when (not stable)) ∷ [])) (passed h p R T) (λ a. unsettled a R T) in
       λ i. by (both_valid i) (same-place_c1 s i) (s.letter_count i) (same-key_count s i) (same-stable s A q i) (same-settled s A B q i)
 
   same-batch : (jobs results answers : Bytes) → batch_of M jobs results answers ≡ batch_of N jobs results answers
@@ -86,7 +86,7 @@ module _ {M N : Net} (s : SameNet M N) (valid-m : valid M ≡ true) (valid-n : v
       let by : Bool → Option ℕ → ℕ → Buffers → Batch =
       λ v c1 h filled.
       let short = row 45 (when (ltb (length results) (count * (2 * h)) || ltb (length answers) (count * answer_width))) in
-      by_rows_lem (row 41 (when (not v)) ∷ row 31 c1 ∷ short ∷ []) (record { answer = answer 0 0; buffers = filled }) (λ a. batched a results answers) in
+      by_rows (row 41 (when (not v)) ∷ row 31 c1 ∷ short ∷ []) (record { answer = answer 0 0; buffers = filled }) (λ a. batched a results answers) in
       λ i. by (both_valid i) (same-place_c1 s i) (same-key_count s i) (same-jobs s (pieces count jobs) results answers i)
 
   pub same_behaviour : BehavesAs M N
@@ -116,5 +116,5 @@ module _ {M N : Net} (s : SameNet M N) (valid-m : valid M ≡ true) (valid-n : v
   unfolding net_text
   same-net_text n lines =
       let by : Answer → ℕ → Batch → Bytes =
-      λ a h batch. cond (goes_on_lem a.number) (job_texts h (job_count lines) n batch.buffers.results batch.buffers.answers) [] in
+      λ a h batch. cond (goes_on a.number) (job_texts h (job_count lines) n batch.buffers.results batch.buffers.answers) [] in
       λ i. by (same_verdict i) (same-key_count s i) (same-batch_for lines i)

@@ -53,7 +53,7 @@ demand1_sheet sheet = record {
 pub demand1_listed : (sheet : List ℕ) → Outcome (read_sheet sheet)
 demand1_listed = outcome field_width
 
--- number 41 is for the nets that no accepted sheet gives; of whole records: `record_answers`, in Records
+-- number 41 is for the records that no accepted sheet gives
 pub demand1_record : (N : Net) → (valid N ≡ true) ↔ ((sheet : List ℕ) × (read_sheet sheet ≡ accepted N))
 demand1_record = valid_iff_accepted field_width (omega arith)
 

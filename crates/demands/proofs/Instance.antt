@@ -1,27 +1,21 @@
 -- Demands 2 and 3 on real nets with concrete buffers: no premise of theirs is empty.
 -- In plain words (`nands_settle`): when the inputs of the report's three NANDs go from 11 to 00, from the key state 010, then in whatever order the key
 -- nodes switch, and whatever else is tried in between, once two rounds have closed under 00 the key state is 101.
-use Prim.Native.Nat.{ℕ, zero, suc, ◌*◌, ◌^◌, ◌≤◌, ◌<◌}
+use Prim.Native.Nat.{ℕ, zero, suc, ◌≤◌, ◌<◌}
 use native.Mathlib.Omega.{arith}
-use mathlib.Core.Path.{◌≡◌, refl, sym, ap, subst, ◌∙◌}
+use mathlib.Core.Path.{◌≡◌, refl, subst}
 use mathlib.Core.List.{List, [], ◌∷◌}
 use lib.Dec.{lit<}
-use lib.ListN.{take, drop}
-use Rattle.ternary.specs.Bits.{bit, number}
+use Rattle.ternary.specs.Bits.{bit}
 use Rattle.ternary.specs.Signal.{X, at}
 use Rattle.ternary.specs.Run.{Step}
-use Rattle.net.specs.declared.Net.{Net}
-use Rattle.net.specs.Graph.{key_count, key_vertex}
-use Rattle.net.specs.SignalTable.{signal_count, signal_index, setting, spread_input, spread_keys, excitation_at, truth_table}
-use Rattle.lanes.specs.Lanes.{assignments}
+use Rattle.net.specs.Graph.{key_count}
 use Rattle.sheet.specs.Record.{accepted}
 use Rattle.sheet.specs.Rows.{answer}
 use Rattle.sheet.specs.Line.{write_number}
 use Rattle.sheet.specs.Reading.{read_sheet}
-use Rattle.records.specs.Records.{record_of, recorded_of}
-use Rattle.records.proofs.RecordLaws.{net_of_record_lem}
 use Rattle.soundness.specs.Verdict.{verdict_rows, verdict_of}
-use Rattle.settlements.specs.Settle.{settling, settle_of}
+use Rattle.settlements.specs.Settle.{settling}
 use Rattle.settlements.specs.Batch.{batch_of}
 use Rattle.output.specs.Text.{vector_text, job_text, job_texts}
 use Rattle.output.specs.Printed.{printed_line, printed_answer}
@@ -35,13 +29,11 @@ use Rattle.demands.specs.Kept.{Kept, JobLineKept}
 use Rattle.demands.specs.Gates.{GatesKept}
 use Rattle.demands.specs.Instance.{lent, nands, nand_gates, worked_net, jobs, batch, printed}
 use Rattle.demands.specs.Text.{TextKept}
-use Rattle.demands.specs.Records.{Given, RecordKept}
 use Rattle.gates.proofs.Examples.{open_gates}
 use Rattle.bench_examples.proofs.Opened.{opened}
 use Rattle.demands.proofs.Kept.{settle_kept_on, job_kept_on, settles_at}
 use Rattle.demands.proofs.TextKept.{text_kept}
 use Rattle.demands.proofs.Gates.{gates_kept}
-use Rattle.demands.proofs.Records.{record_tables, record_settle_kept_on}
 
 -- ---- three NANDs, from 11 to 00, from 010; one buffer is longer than the net needs, the other just long enough
 
@@ -66,39 +58,6 @@ nands_settle steps enough k h = settles_at nands_kept k (rw three-keys h) (binar
     binary (suc zero) h = lit< tt
     binary (suc (suc zero)) h = lit< tt
     binary (suc (suc (suc k))) h = absurd (omega arith)
-
--- ---- the same, of the NANDs' record: an accepted sheet gives it, and settling reads its tables
-
-nands_given : Given (record_of nands)
-nands_given = (three_nands, record { gives = ap recorded_of nands_read })
-
-pub nands_record_kept : RecordKept (record_of nands) 3 0 2 (lent 4) (lent 3) (record { answer = settling 0 0 2 2; r = X ∷ X ∷ X ∷ 9 ∷ []; t = 1 ∷ 0 ∷ 1 ∷ [] })
-unfolding opened nands
-nands_record_kept =
-    record_settle_kept_on (record_of nands) nands_given 3 0 2 (lent 4) (lent 3) (ap (λ (N : Net). settle_of N 3 0 2 (lent 4) (lent 3)) (net_of_record_lem nands)) refl
-
--- each of its three key nodes has two signals, so four entries: of y1 = (a y2)' over a, y2; of y2 = (y1 y3)' over y1, y3; of y3 = (y2 b)' over b, y2, for
--- letters come first
-two_signals : (k : ℕ) → k < 3 → 2 ^ signal_count nands (key_vertex nands k) ≡ 4
-unfolding opened nands
-two_signals zero h = refl
-two_signals (suc zero) h = refl
-two_signals (suc (suc zero)) h = refl
-two_signals (suc (suc (suc k))) h = absurd (omega arith)
-
--- the excitation is 0 where both are 1
-zero_at_11 : (k : ℕ) → k < 3 → truth_table nands (key_vertex nands k) ≡ 1 ∷ 1 ∷ 1 ∷ 0 ∷ []
-unfolding opened nands number signal_index setting spread_input spread_keys excitation_at truth_table
-zero_at_11 zero h = refl
-zero_at_11 (suc zero) h = refl
-zero_at_11 (suc (suc zero)) h = refl
-zero_at_11 (suc (suc (suc k))) h = absurd (omega arith)
-
-pub nands_tables : (k : ℕ) → k < 3 → take 4 (drop (k * assignments) (record_of nands).tables) ≡ 1 ∷ 1 ∷ 1 ∷ 0 ∷ []
-nands_tables k h =
-    ap (λ (n : ℕ). take n (drop (k * assignments) (record_of nands).tables)) (sym (two_signals k h))
-    ∙ (record_tables (record_of nands) nands_given).table k (rw three-keys h)
-    ∙ zero_at_11 k h
 
 -- ---- the same NANDs as gates: they give the same record, and the program prints its sheet, which settles as above
 

@@ -28,10 +28,10 @@ use Rattle.demands.proofs.Demand2.{demand2_settle, demand2_job}
 use Rattle.demands.proofs.Demand3.{demand3_settle, demand3_job}
 
 -- answer 0 tells that no row's condition holds
-pub settle_fits : (N : Net) (A B q : ℕ) (R T : List ℕ) {S : Settlement} → settle_of N A B q R T ≡ S → S.answer.number ≡ 0 → SettleFit N A B q R T
+settle_fits : (N : Net) (A B q : ℕ) (R T : List ℕ) {S : Settlement} → settle_of N A B q R T ≡ S → S.answer.number ≡ 0 → SettleFit N A B q R T
 settle_fits N A B q R T e ok = settle_fit N A B q R T ((settle_zero N A B q R T).0 (ap (λ (s : Settlement). s.answer.number) e ∙ ok))
 
-pub batch-fits : (N : Net) (jobs results answers : List ℕ) → (batch_of N jobs results answers).answer.number ≡ 0 → BatchFit N (job_count jobs) results answers
+batch-fits : (N : Net) (jobs results answers : List ℕ) → (batch_of N jobs results answers).answer.number ≡ 0 → BatchFit N (job_count jobs) results answers
 batch-fits N jobs results answers ok = batch_fit N (job_count jobs) results answers ((batch_zero N jobs results answers).0 ok)
 
 module _ (sheet : List ℕ) {N : Net} (reads : read_sheet sheet ≡ accepted N) where

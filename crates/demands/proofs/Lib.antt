@@ -16,5 +16,3 @@ pub mod Library
 pub mod Behaviour
 pub mod Writer
 pub mod Gates
-pub mod SameTables
-pub mod Records

@@ -7,7 +7,7 @@ use Rattle.net.specs.declared.Net.{Net}
 use Rattle.net.specs.Graph.{key_count}
 use Rattle.sheet.specs.Limits.{field_width}
 use Rattle.sheet.specs.declared.Answer.{Answer}
-use Rattle.sheet.specs.Rows.{answer, Row, first_row, by_rows_lem, answered}
+use Rattle.sheet.specs.Rows.{answer, Row, first_row, by_rows, answered}
 use Rattle.sheet.specs.SheetRows.{net_of, sheet_rows}
 use Rattle.sheet.proofs.RowLaws.{by_rows_fit, by_rows-first, by_rows-answer, by_rows-map, by_rows-append, positive, positive-append, answered_zero, answered_some}
 use Rattle.sheet.proofs.SheetRowLaws.{sheet_positive, sheet_then}
@@ -22,7 +22,7 @@ answers_by : (rows : List Row) → positive rows ≡ true → {given : Answer} �
 answers_by rows h e = record { fit = rw e (answered_zero rows h); wrong = λ n p l. rw e (answered_some rows n p l) }
 
 -- what rows answer, where the answer is all that is asked
-answer_by : (rows : List Row) → by_rows_lem rows (answer 0 0) (λ a. a) ≡ answered (first_row rows)
+answer_by : (rows : List Row) → by_rows rows (answer 0 0) (λ a. a) ≡ answered (first_row rows)
 answer_by rows = by_rows-answer rows (answer 0 0) (λ a. a) (λ a. a) refl (λ a. refl)
 
 module _ (sheet : List ℕ) where
@@ -31,7 +31,7 @@ module _ (sheet : List ℕ) where
 
   -- ---- what a sheet is judged to be
 
-  judged-by_rows : judged_of sheet ≡ by_rows_lem (sheet_rows sheet) (judged (verdict_of N) (key_count N)) (λ a. judged a 0)
+  judged-by_rows : judged_of sheet ≡ by_rows (sheet_rows sheet) (judged (verdict_of N) (key_count N)) (λ a. judged a 0)
   unfolding judged_of
   judged-by_rows = sheet_then field_width sheet (λ M. judged (verdict_of M) (key_count M)) (λ a. judged a 0)
 
@@ -40,7 +40,7 @@ module _ (sheet : List ℕ) where
   judged-answer =
       ap (λ (j : Judged). j.answer) judged-by_rows
       ∙ by_rows-map (sheet_rows sheet) (judged (verdict_of N) (key_count N)) (λ a. judged a 0) (λ (j : Judged). j.answer)
-      ∙ ap (λ (a : Answer). by_rows_lem (sheet_rows sheet) a (λ b. b)) (sym (answer_by (verdict_rows N)))
+      ∙ ap (λ (a : Answer). by_rows (sheet_rows sheet) a (λ b. b)) (sym (answer_by (verdict_rows N)))
       ∙ sym (by_rows-append (sheet_rows sheet) (verdict_rows N) (answer 0 0) (λ a. a))
       ∙ answer_by (sheet_rows sheet ++ verdict_rows N)
 
@@ -65,11 +65,11 @@ module _ (sheet : List ℕ) where
     ran = record { answer = answer 0 0; buffers = run_jobs N (pieces (job_count jobs) jobs) results answers }
 
     batch-by_rows : sheet_batch_of sheet jobs results answers
-        ≡ by_rows_lem (sheet_rows sheet) (sheet_batch (batch_of N jobs results answers) (key_count N)) (λ a. sheet_batch (refuse a) 0)
+        ≡ by_rows (sheet_rows sheet) (sheet_batch (batch_of N jobs results answers) (key_count N)) (λ a. sheet_batch (refuse a) 0)
     unfolding sheet_batch_of
     batch-by_rows = sheet_then field_width sheet (λ M. sheet_batch (batch_of M jobs results answers) (key_count M)) (λ a. sheet_batch (refuse a) 0)
 
-    batch_by_all : (sheet_batch_of sheet jobs results answers).batch ≡ by_rows_lem (sheet_rows sheet ++ rows) ran refuse
+    batch_by_all : (sheet_batch_of sheet jobs results answers).batch ≡ by_rows (sheet_rows sheet ++ rows) ran refuse
     unfolding batch_of
     batch_by_all =
         ap (λ (s : SheetBatch). s.batch) batch-by_rows

@@ -61,7 +61,7 @@ module _ (N : Net) (sheet buffer : Bytes) {W : Writing} (e : writing_by N sheet 
   no_row : NoRow (writing_rows N sheet buffer)
   no_row = (writing_zero N sheet buffer).0 (ap (λ (x : Writing). x.answer.number) e ∙ ok)
 
-  pub written-valid : valid N ≡ true
+  written-valid : valid N ≡ true
   written-valid = is_valid N sheet buffer no_row
 
   written-bytes : bytes_of W ≡ sheet

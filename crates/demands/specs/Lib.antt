@@ -7,4 +7,3 @@ pub mod Instance
 pub mod Text
 pub mod Writer
 pub mod Gates
-pub mod Records

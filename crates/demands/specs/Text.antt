@@ -15,7 +15,7 @@ use Rattle.sheet.specs.Job.{job_of}
 use Rattle.settlements.specs.Batch.{job_count}
 use Rattle.output.specs.declared.Judged.{Judged}
 use Rattle.output.specs.Limits.{most_jobs, opening_bytes, job_bytes, hyphen}
-use Rattle.output.specs.Output.{first_line, goes_on_lem}
+use Rattle.output.specs.Output.{first_line, goes_on}
 use Rattle.output.specs.Text.{character}
 use Rattle.output.specs.Printed.{printed_line, printed_numbers, printed_answer, printed_r, printed_t, AgainstPrinted}
 use Rattle.demands.specs.Demand1.{JudgedAnswers, line_of, job_line_rows}
@@ -27,8 +27,8 @@ use Rattle.demands.specs.Demand3.{Settles, run_of}
 pub record OutputAnswers (sheet jobs : List ℕ) (given : Judged) (output : List ℕ) : Type 0 where
   pub judged_as : JudgedAnswers sheet given
   pub first : take opening_bytes output ≡ first_line given.answer given.keys
-  pub ends : goes_on_lem given.answer.number ≡ false → output ≡ first_line given.answer given.keys
-  pub lines : goes_on_lem given.answer.number ≡ true → length output ≡ opening_bytes + min most_jobs (job_count jobs) * job_bytes given.keys
+  pub ends : goes_on given.answer.number ≡ false → output ≡ first_line given.answer given.keys
+  pub lines : goes_on given.answer.number ≡ true → length output ≡ opening_bytes + min most_jobs (job_count jobs) * job_bytes given.keys
 
 -- the line of job n, from 0: its answer is 0 exactly if no row of the job holds, and a number exactly if its row is the first that holds; the whole line is
 -- then the job's own number, that number, counts 0 and hyphens

@@ -21,7 +21,7 @@ use Rattle.net.specs.SignalTable.{spread_input, spread_keys}
 use Rattle.net.specs.Tables.{Readable}
 use Rattle.lanes.specs.Lanes.{assignments, lane}
 use Rattle.lanes.proofs.GridLaws.{grid-cell}
-use Rattle.excitations.specs.Conditions.{owner, other, usable_at_lem, usable_lanes}
+use Rattle.excitations.specs.Conditions.{owner, other, usable_at, usable_lanes}
 use Rattle.excitations.proofs.SameState.{input_same, keys-same}
 
 module _ (N : Net) where
@@ -63,16 +63,16 @@ module _ (N : Net) where
             (λ sv. subst (SameComponent N u) (sym ((owner-second (edge_at N i) (rw e.0 sv)).0 ∙ e.1)) (itself u su))
 
     -- the edge is usable at an assignment as it is in the state of u
-    pub usable-from : (k : Kind) (w : ℕ) → usable_at_lem N k i w ≡ usable N (spread_input N u w) (spread_keys N u w) k i
-    unfolding usable_at_lem
+    pub usable-from : (k : Kind) (w : ℕ) → usable_at N k i w ≡ usable N (spread_input N u w) (spread_keys N u w) k i
+    unfolding usable_at
     usable-from k w = let c = owner_component in rw (c.to, input_same c w, keys-same c w)
 
   -- ---- lanes
 
-  pub on_read : Readable N → (k : Kind) (i w : ℕ) → i < N.edge_count → w < assignments → lane (usable_lanes N k) i w ≡ digit (usable_at_lem N k i w)
+  pub on_read : Readable N → (k : Kind) (i w : ℕ) → i < N.edge_count → w < assignments → lane (usable_lanes N k) i w ≡ digit (usable_at N k i w)
   unfolding usable_lanes
   on_read readable k i w h l =
-      grid-cell assignments most_edges (λ i w. digit (ltb i N.edge_count && usable_at_lem N k i w)) i w (omega (arith, readable.edges)) l
+      grid-cell assignments most_edges (λ i w. digit (ltb i N.edge_count && usable_at N k i w)) i w (omega (arith, readable.edges)) l
       ∙ rw (lt-ltb i N.edge_count h)
 
   pub on_iff : Readable N → (k : Kind) (i w u v : ℕ) → i < N.edge_count → w < assignments → Joins (edge_at N i) u v → is_storage N u ≡ true

@@ -23,7 +23,7 @@ use Rattle.net.proofs.Values.{decode_by}
 use Rattle.net.proofs.SignalTable.{spread_signal}
 use Rattle.lanes.specs.Lanes.{chosen}
 use Rattle.lanes.proofs.LaneLaws.{chosen-high, chosen-low}
-use Rattle.excitations.specs.Conditions.{symbol_at, owner, other, usable_at_lem}
+use Rattle.excitations.specs.Conditions.{symbol_at, owner, other, usable_at}
 use Rattle.excitations.proofs.Edges.{itself, owner_joins}
 
 -- ---- one symbol
@@ -80,8 +80,8 @@ module _ (N : Net) where
   module _ (known : Known N) (i : ℕ) (h : i < N.edge_count) (sy : is_storage N (owner N (edge_at N i)) ≡ true) where
     -- the edge's condition in the spread state
     pub usable_at_lem : (k : Kind) (w : ℕ)
-        → usable_at_lem N k i w ≡ admits k (condition_of (edge_at N i).form (symbol_at (decode (edge_at N i).symbol) (bit w (signal_index N (owner N (edge_at N i)) (edge_at N i).symbol))))
-    unfolding usable_at_lem usable condition
+        → usable_at N k i w ≡ admits k (condition_of (edge_at N i).form (symbol_at (decode (edge_at N i).symbol) (bit w (signal_index N (owner N (edge_at N i)) (edge_at N i).symbol))))
+    unfolding usable_at usable condition
     usable_at_lem k w =
         rw (sy, value_at_lem N known (owner N (edge_at N i)) w (edge_at N i).symbol (on_edge (itself N _ sy) (link i h)))
 

@@ -20,14 +20,14 @@ use Rattle.net.proofs.Flags.{and_false_right}
 use Rattle.lanes.specs.Lanes.{assignments, chosen, choose_row}
 use Rattle.lanes.proofs.LaneLaws.{column_read}
 use Rattle.excitations.specs.Fit.{Fit}
-use Rattle.excitations.specs.Conditions.{symbol_at, owner, usable_at_lem, usable_lanes}
+use Rattle.excitations.specs.Conditions.{symbol_at, owner, usable_at, usable_lanes}
 use Rattle.excitations.proofs.FirstRows.{first_rows, length-rows, rows_none, rows_step, rows_skip, rows_end}
 use Rattle.excitations.proofs.PlaceLaws.{place_small}
 use Rattle.excitations.proofs.StateValues.{chosen-bit, symbol_bound_lem, usable_at_lem}
 
 module _ (N : Net) (k : Kind) where
   abbrev entry : ℕ → ℕ → ℕ
-  entry i w = digit (ltb i N.edge_count && usable_at_lem N k i w)
+  entry i w = digit (ltb i N.edge_count && usable_at N k i w)
 
   -- the rows of the first n edges
   abbrev pub first_usable : ℕ → List ℕ
@@ -67,7 +67,7 @@ module _ (N : Net) (k : Kind) where
 
   -- an edge between input vertices
   pub usable_skip : (i : ℕ) {r : List ℕ} → is_storage N (owner N (edge_at N i)) ≡ false → r ≡ first_usable i → r ≡ first_usable (i + 1)
-  unfolding usable_at_lem
+  unfolding usable_at
   usable_skip i e q = q ∙ rows_skip assignments most_edges entry i (λ w _. rw (e, and_false_right))
 
   pub usable_all : first_usable N.edge_count ≡ usable_lanes N k

@@ -30,10 +30,10 @@ unfoldable pub other : Net → Edge → ℕ
 other N e = cond (is_storage N e.end1) e.end2 e.end1
 
 -- edge i touches a component, and a connection of kind k may use it at assignment w of that component's signals
-unfoldable pub usable_at_lem : Net → Kind → ℕ → ℕ → Bool
-usable_at_lem N k i w =
+unfoldable pub usable_at : Net → Kind → ℕ → ℕ → Bool
+usable_at N k i w =
     let y = owner N (edge_at N i) in
     is_storage N y && usable N (spread_input N y w) (spread_keys N y w) k i
 
 unfoldable pub usable_lanes : Net → Kind → List ℕ
-usable_lanes N k = lanes most_edges (λ i w. digit (ltb i N.edge_count && usable_at_lem N k i w))
+usable_lanes N k = lanes most_edges (λ i w. digit (ltb i N.edge_count && usable_at N k i w))

@@ -7,7 +7,7 @@ use Rattle.net.specs.declared.Net.{Net}
 use Rattle.net.proofs.Concrete.{vertex, edge, net}
 use Rattle.sheet.specs.Line.{line, write_line}
 use Rattle.sheet.specs.Record.{refused, accepted}
-use Rattle.sheet.specs.Rows.{answer, by_rows_lem}
+use Rattle.sheet.specs.Rows.{answer, by_rows}
 use Rattle.sheet.specs.SheetRows.{placed, in_turn, line_at}
 use Rattle.sheet.specs.Text.{text}
 use Rattle.sheet.proofs.Sheets.{open_all}
@@ -18,7 +18,7 @@ use Rattle.gates.specs.GateRows.{gate_header_ok, gate_of, gate_line_ok, net_of_g
 -- opens the definitions of gate sheets, and those of sheets
 unfoldable pub open_gates : Unit {0}
 unfolding
-    open_all read_gates by_rows_lem gate_rows first_line_ok gate_header_ok gate_line_rows gate_line_ok line_at in_turn net_of_gates net_of_first placed edges_before gate_edges
+    open_all read_gates by_rows gate_rows first_line_ok gate_header_ok gate_line_rows gate_line_ok line_at in_turn net_of_gates net_of_first placed edges_before gate_edges
     inners_before gate_of
 open_gates = tt
 

@@ -16,7 +16,7 @@ use Rattle.gates.specs.declared.Gate.TheVariants.{Inverter, Nand, Nor}
 use Rattle.gates.specs.Limits.{most_gates}
 use Rattle.gates.specs.Gates.{gate_value, output_at, gate_net}
 use Rattle.gates.proofs.Patterns.{alone, first_symbol, second_symbol, symbol_for, formula, pattern-fits, AloneAt, alone_at, alone-output, letter1, letter2}
-use Rattle.gates.proofs.Located.{place_at_lem, pattern_edge}
+use Rattle.gates.proofs.Located.{place_at, pattern_edge}
 use Rattle.net.proofs.Copies.{LinksKept, excitation_copy, fights_copy}
 use Rattle.gates.proofs.Placing.{storage_at, input_at}
 use Rattle.gates.proofs.Links.{kept}
@@ -49,7 +49,7 @@ module _ (G : ℕ) (gate : ℕ → Gate) (L : ℕ) (few : G ≤ most_gates) (g :
       lone_second : value (alone γ) lone.state 0 letter2 ≡ bit lone.state 1
       lone_second = refl
 
-  links : (k : Kind) → LinksKept (alone γ) N (place_at_lem G gate g) (usable (alone γ) lone.state 0 k) (usable N a q k)
+  links : (k : Kind) → LinksKept (alone γ) N (place_at G gate g) (usable (alone γ) lone.state 0 k) (usable N a q k)
   unfolding usable condition
   links k =
       kept G gate L few g l (λ e. admits k (condition (alone γ) lone.state 0 e)) (λ e. admits k (condition N a q e))
@@ -59,10 +59,10 @@ module _ (G : ℕ) (gate : ℕ → Gate) (L : ℕ) (few : G ≤ most_gates) (g :
 
   pub output-excitation : excitation N a q (output_at g) ≡ gate_value N a q γ
   output-excitation =
-      excitation_copy (alone γ) N (place_at_lem G gate g) (storage_at G gate L few g l) lone.state 0 a q (input_at G gate L few g l a q lone.state) links 3 (alone-output γ)
+      excitation_copy (alone γ) N (place_at G gate g) (storage_at G gate L few g l) lone.state 0 a q (input_at G gate L few g l a q lone.state) links 3 (alone-output γ)
       ∙ lone.excited ∙ by_formula N a q γ
 
-  pub no_vertex_fight : (u : ℕ) → is_storage (alone γ) u ≡ true → vertex_fights N a q (place_at_lem G gate g u) ≡ false
+  pub no_vertex_fight : (u : ℕ) → is_storage (alone γ) u ≡ true → vertex_fights N a q (place_at G gate g u) ≡ false
   no_vertex_fight u su =
-      fights_copy (alone γ) N (place_at_lem G gate g) (storage_at G gate L few g l) lone.state 0 a q (input_at G gate L few g l a q lone.state) links u su
+      fights_copy (alone γ) N (place_at G gate g) (storage_at G gate L few g l) lone.state 0 a q (input_at G gate L few g l a q lone.state) links u su
       ∙ lone.quiet u su

@@ -11,7 +11,7 @@ use Rattle.sheet.specs.declared.LineRead.TheVariants.{Five, Refused}
 use Rattle.sheet.specs.Line.{read_line, line_answer}
 use Rattle.sheet.specs.Reading.{whole_lines}
 use Rattle.sheet.specs.Record.{refused}
-use Rattle.sheet.specs.Rows.{answer, first_row, by_rows_lem}
+use Rattle.sheet.specs.Rows.{answer, first_row, by_rows}
 use Rattle.sheet.specs.SheetRows.{line_at, is_missing}
 use Rattle.sheet.proofs.LineSteps.{five_of, unread_of}
 use Rattle.gates.specs.Limits.{gate_columns, gate_line_bytes, most_gate_lines}
@@ -21,7 +21,7 @@ use Rattle.gates.proofs.GateRowLaws.{few_letters}
 
 module _ (b : Bytes) where
   pub bad_length : whole_lines gate_columns most_gate_lines (length b) ≡ false → refused (answer 11 0) ≡ read_gates b
-  unfolding read_gates gate_rows by_rows_lem first_row
+  unfolding read_gates gate_rows by_rows first_row
   bad_length e = rw e
 
   module _ (size : whole_lines gate_columns most_gate_lines (length b) ≡ true) where
@@ -30,7 +30,7 @@ module _ (b : Bytes) where
     line_at_0 = refl
 
     pub bad_first_line : line_answer (read_line gate_columns (take gate_line_bytes b)) ≡ Refused → refused (answer 12 1) ≡ read_gates b
-    unfolding read_gates gate_rows by_rows_lem first_row
+    unfolding read_gates gate_rows by_rows first_row
     bad_first_line e = rw (size, line_at_0, unread_of (read_line gate_columns (take gate_line_bytes b)) e)
 
     module _ (h : Line) (five : line_answer (read_line gate_columns (take gate_line_bytes b)) ≡ Five h) where
@@ -45,7 +45,7 @@ module _ (b : Bytes) where
       first_line_is = ap (λ (x : Line). gate_header_ok x && eqb (length b / gate_line_bytes) (1 + x.second)) header_is
 
       pub bad_values : (gate_header_ok h && eqb (length b / gate_line_bytes) (1 + h.second)) ≡ false → refused (answer 52 1) ≡ read_gates b
-      unfolding read_gates gate_rows by_rows_lem first_row
+      unfolding read_gates gate_rows by_rows first_row
       bad_values e = rw (size, here, first_line_is, e)
 
       module _ (ok : (gate_header_ok h && eqb (length b / gate_line_bytes) (1 + h.second)) ≡ true) where
@@ -62,5 +62,5 @@ module _ (b : Bytes) where
         letters_few = rw letters_are (few_letters b first_ok)
 
         pub lines_read_lem : gate_rest b h.second 0 ≡ read_gates b
-        unfolding read_gates gate_rows by_rows_lem first_row gate_rest
+        unfolding read_gates gate_rows by_rows first_row gate_rest
         lines_read_lem = rw (gates_are, size, here, first_ok)

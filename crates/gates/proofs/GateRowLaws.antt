@@ -3,7 +3,7 @@
 use Prim.Native.Nat.{ℕ, zero, suc, ◌+◌, ◌<◌, ◌≤◌}
 use native.Mathlib.Omega.{arith}
 use mathlib.Core.Path.{◌≡◌, refl, sym, ap, subst, ◌∙◌}
-use mathlib.Core.Logic.{◌↔◌, ◌≢◌}
+use mathlib.Core.Logic.{◌↔◌}
 use mathlib.Core.Bool.{true, cond}
 use mathlib.Core.List.{[], ◌∷◌}
 use mathlib.Core.Option.{none}
@@ -22,15 +22,15 @@ use Rattle.net.proofs.Values.{within_low, within-high}
 use Rattle.sheet.specs.declared.Answer.{Answer}
 use Rattle.sheet.specs.declared.Line.{Line}
 use Rattle.sheet.specs.declared.Reading.{Reading}
-use Rattle.sheet.specs.Rows.{answer, Row, by_rows_lem, First, NoRow}
+use Rattle.sheet.specs.Rows.{answer, Row, by_rows, First, NoRow}
 use Rattle.sheet.specs.Rows.NoRow.{end, next}
-use Rattle.sheet.specs.Record.{empty_net, refused, accepted, read_by}
+use Rattle.sheet.specs.Record.{refused, accepted, read_by}
 use Rattle.sheet.specs.Graph.{key_place}
 use Rattle.sheet.specs.SheetRows.{in_turn}
 use Rattle.sheet.specs.Valid.{valid}
 use Rattle.sheet.proofs.FitSheets.{Passing}
 use Rattle.sheet.proofs.RowLaws.{positive, positive-append, none_append, not_held}
-use Rattle.sheet.proofs.ReadingLaws.{read_zero, read_number, read_refused, read_accepted, read_empty, read_then}
+use Rattle.sheet.proofs.ReadingLaws.{read_zero, read_number, read_refused, read_accepted, read_then}
 use Rattle.sheet.proofs.TurnLaws.{turn_positive, each_turn}
 use Rattle.gates.specs.Limits.{most_gates, gate_columns}
 use Rattle.gates.specs.Gates.{gate_value, output_at}
@@ -80,12 +80,9 @@ module _ (b : Bytes) where
   pub gate_accepted : NoRow (gate_rows b) → read_gates b ≡ accepted (net_of_gates b)
   gate_accepted = read_accepted (gate_rows b) gate_positive (net_of_gates b) by_rows_lem
 
-  pub gate_empty : (read_gates b).answer.number ≢ 0 → (read_gates b).net ≡ empty_net
-  gate_empty = read_empty (gate_rows b) gate_positive (net_of_gates b) by_rows_lem
-
   -- what a call gives that reads a gate sheet first
   pub gate_then : {A : Type 0} (good : Net → A) (bad : Answer → A)
-      → cond (eqb (read_gates b).answer.number 0) (good (read_gates b).net) (bad (read_gates b).answer) ≡ by_rows_lem (gate_rows b) (good (net_of_gates b)) bad
+      → cond (eqb (read_gates b).answer.number 0) (good (read_gates b).net) (bad (read_gates b).answer) ≡ by_rows (gate_rows b) (good (net_of_gates b)) bad
   gate_then = read_then (gate_rows b) gate_positive (net_of_gates b) by_rows_lem
 
   -- ---- line 1

@@ -12,7 +12,7 @@ use Rattle.gates.specs.declared.Gate.{Gate}
 use Rattle.gates.specs.Limits.{most_gates}
 use Rattle.gates.specs.Gates.{gate_net}
 use Rattle.gates.proofs.Patterns.{alone, pattern}
-use Rattle.gates.proofs.Located.{place_at_lem, image_at, pattern_edge, EdgeOf, located, indexed, alone_edges, alone-edge}
+use Rattle.gates.proofs.Located.{place_at, image_at, pattern_edge, EdgeOf, located, indexed, alone_edges, alone-edge}
 use Rattle.net.proofs.Copies.{LinksKept}
 use Rattle.gates.proofs.Placing.{apart}
 
@@ -21,7 +21,7 @@ module _ (G : ℕ) (gate : ℕ → Gate) (L : ℕ) (few : G ≤ most_gates) (g :
   N = gate_net G gate L
 
   abbrev at : ℕ → ℕ
-  at u = place_at_lem G gate g u
+  at u = place_at G gate g u
 
   abbrev γ : Gate
   γ = gate g

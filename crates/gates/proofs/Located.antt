@@ -27,8 +27,8 @@ module _ (G : ℕ) (gate : ℕ → Gate) where
   abbrev own : ℕ → List Edge
   own g = gate_edges (output_at g) (inner_at G gate g) (gate g)
 
-  abbrev pub place_at_lem : ℕ → ℕ → ℕ
-  place_at_lem g u = place (output_at g) (inner_at G gate g) (gate g) u
+  abbrev pub place_at : ℕ → ℕ → ℕ
+  place_at g u = place (output_at g) (inner_at G gate g) (gate g) u
 
   -- edge k of gate g, as the image of the pattern's
   abbrev pub image_at : ℕ → Edge → Edge

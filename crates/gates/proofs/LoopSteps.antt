@@ -23,7 +23,7 @@ use Rattle.sheet.specs.Graph.{graph_rows, key_place}
 use Rattle.sheet.specs.Line.{read_line, line_answer}
 use Rattle.sheet.specs.Reading.{conclude}
 use Rattle.sheet.specs.Record.{refused, accepted}
-use Rattle.sheet.specs.Rows.{answer, row, first_row, by_rows_lem}
+use Rattle.sheet.specs.Rows.{answer, row, first_row, by_rows}
 use Rattle.sheet.specs.SheetRows.{line_at, in_turn}
 use Rattle.sheet.proofs.LineSteps.{five_of, unread_of, part}
 use Rattle.sheet.proofs.ReaderSteps.{lent}
@@ -53,15 +53,15 @@ module _ (b : Bytes) where
   -- ---- the next line
 
   rest_missing : (m g : ℕ) → gate_sheet_line b (1 + g) ≡ none → gate_rest b (suc m) g ≡ refused (answer 12 (suc (1 + g)))
-  unfolding gate_rest in_turn gate_line_rows by_rows_lem first_row
+  unfolding gate_rest in_turn gate_line_rows by_rows first_row
   rest_missing m g e = rw (in_turn, e)
 
   rest_bad : (m g : ℕ) (v : Line) → gate_sheet_line b (1 + g) ≡ some v → gate_line_ok G L g v ≡ false → gate_rest b (suc m) g ≡ refused (answer 52 (suc (1 + g)))
-  unfolding gate_rest in_turn gate_line_rows by_rows_lem first_row
+  unfolding gate_rest in_turn gate_line_rows by_rows first_row
   rest_bad m g v e t = rw (in_turn, e, t)
 
   rest-next : (m g : ℕ) (v : Line) → gate_sheet_line b (1 + g) ≡ some v → gate_line_ok G L g v ≡ true → gate_rest b (suc m) g ≡ gate_rest b m (suc g)
-  unfolding gate_rest in_turn gate_line_rows by_rows_lem first_row
+  unfolding gate_rest in_turn gate_line_rows by_rows first_row
   rest-next m g v e t = rw (in_turn, e, t)
 
   -- ---- the line that is lent
@@ -125,10 +125,10 @@ module _ (b : Bytes) where
 
       -- of the rows over the graph only 22 can hold
       concludes : conclude (net_of_gates b) (first_row (graph_rows (net_of_gates b))) ≡ gate_rest b 0 G
-      unfolding gate_rest in_turn net_of_gates graph_rows first_row by_rows_lem conclude
+      unfolding gate_rest in_turn net_of_gates graph_rows first_row by_rows conclude
       concludes = rw (in_turn, partners G (gate_from b) L (few_gates b first), signals_few G (gate_from b) L (few_gates b first)) (go (key_place (net_of_gates b)))
         where
-          go : (o : Option ℕ) → conclude (net_of_gates b) (first_row (row 22 o ∷ row 23 none ∷ [])) ≡ by_rows_lem (row 22 o ∷ []) (accepted (net_of_gates b)) refused
+          go : (o : Option ℕ) → conclude (net_of_gates b) (first_row (row 22 o ∷ row 23 none ∷ [])) ≡ by_rows (row 22 o ∷ []) (accepted (net_of_gates b)) refused
           go none = refl
           go (some p) = refl
 

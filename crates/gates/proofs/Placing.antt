@@ -16,16 +16,16 @@ use Rattle.gates.specs.Limits.{most_gates}
 use Rattle.gates.specs.Gates.{has_inner, output_at, inners_before, inner_at, net_of_first, gate_net, vertices_before}
 use Rattle.gates.proofs.Vertices.{inners_more, inners_mono, role_low, role_high, role_output, role_inner, role_zero, role_outside, input_low, input_high, input_other}
 use Rattle.gates.proofs.Patterns.{lettered, alone, alone-count, alone_inners, storage_cases, input_cases}
-use Rattle.gates.proofs.Located.{place_at_lem}
+use Rattle.gates.proofs.Located.{place_at}
 
 module _ (G : ℕ) (gate : ℕ → Gate) where
   -- ---- places
 
   -- a place is a rail or no vertex, an output, or an inner vertex
   data View (g u : ℕ) : Type 0 where
-    a_rail : place_at_lem G gate g u ≤ 2 → View g u
-    an_output : u ≡ 3 → place_at_lem G gate g u ≡ output_at g → View g u
-    an_inner : u ≡ 4 → has_inner (gate g) ≡ true → place_at_lem G gate g u ≡ inner_at G gate g → View g u
+    a_rail : place_at G gate g u ≤ 2 → View g u
+    an_output : u ≡ 3 → place_at G gate g u ≡ output_at g → View g u
+    an_inner : u ≡ 4 → has_inner (gate g) ≡ true → place_at G gate g u ≡ inner_at G gate g → View g u
 
   view : (g u : ℕ) → View g u
   view g zero = a_rail (omega arith)
@@ -46,7 +46,7 @@ module _ (G : ℕ) (gate : ℕ → Gate) where
       below g h i l = omega (arith, inners_more G gate g i, inners_mono G gate (suc g) h l)
 
   -- a storage vertex's place is no other's
-  pub apart : (g h u v : ℕ) → g < G → h < G → is_storage (alone (gate g)) u ≡ true → place_at_lem G gate g u ≡ place_at_lem G gate h v → (g ≡ h) × (u ≡ v)
+  pub apart : (g h u v : ℕ) → g < G → h < G → is_storage (alone (gate g)) u ≡ true → place_at G gate g u ≡ place_at G gate h v → (g ≡ h) × (u ≡ v)
   apart g h u v l m su e = go (storage_cases (gate g) u su) (view g u) (view h v)
     where
       go : (u ≡ 3) ⊎ ((u ≡ 4) × (has_inner (gate g) ≡ true)) → View g u → View h v → (g ≡ h) × (u ≡ v)
@@ -56,10 +56,10 @@ module _ (G : ℕ) (gate : ℕ → Gate) where
       go c (an_inner p i q) (a_rail r) = absurd (omega arith)
       go c (an_inner p i q) (an_output r s) = absurd (omega arith)
       go c (an_inner p i q) (an_inner r j s) = (inner_apart g h i j (omega arith), omega arith)
-      go (inl c) (a_rail p) w = absurd (omega (arith, ap (place_at_lem G gate g) c))
-      go (inr c) (a_rail p) w = absurd (omega (arith, ap (place_at_lem G gate g) c.0 ∙ at_inner c.1))
+      go (inl c) (a_rail p) w = absurd (omega (arith, ap (place_at G gate g) c))
+      go (inr c) (a_rail p) w = absurd (omega (arith, ap (place_at G gate g) c.0 ∙ at_inner c.1))
         where
-          at_inner : has_inner (gate g) ≡ true → place_at_lem G gate g 4 ≡ inner_at G gate g
+          at_inner : has_inner (gate g) ≡ true → place_at G gate g 4 ≡ inner_at G gate g
           at_inner i = rw i
 
   module _ (L : ℕ) (few : G ≤ most_gates) where
@@ -68,7 +68,7 @@ module _ (G : ℕ) (gate : ℕ → Gate) where
 
     module _ (g : ℕ) (l : g < G) where
       abbrev at : ℕ → ℕ
-      at u = place_at_lem G gate g u
+      at u = place_at G gate g u
 
       abbrev γ : Gate
       γ = gate g

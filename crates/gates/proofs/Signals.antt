@@ -22,7 +22,7 @@ use Rattle.gates.specs.Limits.{most_gates}
 use Rattle.gates.specs.Gates.{gate_net}
 use Rattle.gates.proofs.Vertices.{vertex_at_lem, VertexCase, no_vertex_lem, a_rail, an_output, an_inner, vertex_case}
 use Rattle.gates.proofs.Patterns.{alone, first_symbol, second_symbol, symbol_for, pattern-fits, letter1, letter2}
-use Rattle.gates.proofs.Located.{place_at_lem, pattern_edge}
+use Rattle.gates.proofs.Located.{place_at, pattern_edge}
 use Rattle.net.proofs.Copies.{LinksKept, walk_back}
 use Rattle.gates.proofs.Placing.{storage_at}
 use Rattle.gates.proofs.Links.{touching, kept}
@@ -68,7 +68,7 @@ module _ (G : ℕ) (gate : ℕ → Gate) (L : ℕ) (few : G ≤ most_gates) wher
 
   module _ (g : ℕ) (l : g < G) (u : ℕ) (su : is_storage (alone (gate g)) u ≡ true) where
     abbrev at : ℕ → ℕ
-    at v = place_at_lem G gate g v
+    at v = place_at G gate g v
 
     every : LinksKept (alone (gate g)) N at every_edge every_edge
     every = kept G gate L few g l (λ _. true) (λ _. true) (λ _ _. refl)

@@ -30,7 +30,7 @@ use Rattle.gates.specs.Limits.{most_gates}
 use Rattle.gates.specs.Gates.{edges_before, vertex_from, net_of_first, gate_net, vertices_before}
 use Rattle.gates.proofs.Vertices.{vertices_few, vertex_at_lem, edges_few}
 use Rattle.gates.proofs.Patterns.{Fitting, pattern-fits}
-use Rattle.gates.proofs.Located.{place_at_lem, image_at, pattern_edge, located, edge_at_lem}
+use Rattle.gates.proofs.Located.{place_at, image_at, pattern_edge, located, edge_at_lem}
 use Rattle.gates.proofs.Placing.{apart, place_range}
 use Rattle.gates.proofs.Sound.{Allowed, symbol_allowed, symbol_known}
 use Rattle.gates.proofs.Signals.{few_signals}
@@ -63,7 +63,7 @@ module _ (G : ℕ) (gate : ℕ → Gate) (L : ℕ) (few : G ≤ most_gates) wher
       rw r.2.2 (pattern-fits (gate r.0) r.2.0 r.2.1).form
 
   -- the ends of an edge: vertices that differ
-  ends_ok : (g : ℕ) → g < G → (d : Edge) → Fitting (gate g) d → (place_at_lem G gate g d.end1 ≡ place_at_lem G gate g d.end2) → ⊥
+  ends_ok : (g : ℕ) → g < G → (d : Edge) → Fitting (gate g) d → (place_at G gate g d.end1 ≡ place_at G gate g d.end2) → ⊥
   ends_ok g l d f e =
       f.differ
       (⊎_elim (λ s. (apart G gate g g d.end1 d.end2 l l s e).1) (λ s. sym (apart G gate g g d.end2 d.end1 l l s (sym e)).1) f.storage)

@@ -18,7 +18,7 @@ use Rattle.gates.specs.Limits.{most_gates}
 use Rattle.gates.specs.Gates.{has_inner, output_at, inners_before, gate_net}
 use Rattle.gates.proofs.Vertices.{VertexCase, no_vertex_lem, a_rail, an_output, an_inner, vertex_case}
 use Rattle.gates.proofs.Patterns.{alone, pattern-fits, alone-output, alone-inner}
-use Rattle.gates.proofs.Located.{place_at_lem, image_at, pattern_edge, located}
+use Rattle.gates.proofs.Located.{place_at, image_at, pattern_edge, located}
 use Rattle.gates.proofs.Placing.{storage_at}
 use Rattle.gates.proofs.Excited.{no_vertex_fight}
 
@@ -48,7 +48,7 @@ module _ (G : ℕ) (gate : ℕ → Gate) (L : ℕ) (few : G ≤ most_gates) wher
     pub below : gate_of < G
     pub vertex : ℕ
     pub storage : is_storage (alone (gate gate_of)) vertex ≡ true
-    pub at : place_at_lem G gate gate_of vertex ≡ y
+    pub at : place_at G gate gate_of vertex ≡ y
 
   pub storage_place : (y : ℕ) → is_storage N y ≡ true → Place y
   unfolding inners_before

@@ -6,8 +6,8 @@ ghost use Rattle.std.specs.Prelude.{◌<◌, ◌≡◌, length};
 
 use cases::{Case, Input, data_of, next_case, number_at, number_text};
 use libc::{STDIN_FILENO, STDOUT_FILENO};
-use records::{Record, Recorded};
-use sheet::{Answer, Sheet};
+use net::Net;
+use sheet::{Answer, Reading, Sheet};
 use soundness::Excited;
 
 // The buffer that the text is written to.
@@ -45,19 +45,18 @@ fn print_place(answer: Answer) {
 }
 
 // What a gate sheet reads to: number and place, the record's vertices, edges and letters, and 1 if it is a record that some accepted sheet gives, else 0.
-fn print_reading(recorded: Recorded) {
-    let whole = recorded.kept;
-    let net = whole.net;
-    print_place(recorded.answer);
+fn print_reading(reading: Reading) {
+    let net = reading.net;
+    print_place(reading.answer);
     print_column(net.vertex_count as u64);
     print_column(net.edge_count as u64);
     print_column(net.letter_count as u64);
-    print_column(if records_test::is_record(whole) { 1 } else { 0 });
+    print_column(if record::is_record(net) { 1 } else { 0 });
 }
 
 // The excitation of one vertex: 0 and the value, or the number and 0.
-fn print_excitation(whole: Record, input: u32, key: u32, vertex: u32) {
-    match vertex_excitation::excitation(whole, input, key, vertex) {
+fn print_excitation(net: Net, input: u32, key: u32, vertex: u32) {
+    match vertex_excitation::excitation(net, input, key, vertex) {
         Excited::Value(v) => {
             print_column(0);
             print_column(v as u64);
@@ -94,11 +93,11 @@ fn print_answer<'a>(cases: &'a [u8], at: usize, sheet: &'a [u8])
     let input = number_at(cases, at + Case::FIRST);
     let key = number_at(cases, at + Case::SECOND);
     let vertex = number_at(cases, at + Case::THIRD);
-    let recorded = records_reader::read_gates(sheet);
+    let reading = gates_reader::read(sheet);
     match cases[at] {
-        b'G' => print_reading(recorded),
-        b'V' => print_place(verdict::verdict(recorded.kept)),
-        b'E' => print_excitation(recorded.kept, input, key, vertex),
+        b'G' => print_reading(reading),
+        b'V' => print_place(verdict::verdict(reading.net)),
+        b'E' => print_excitation(reading.net, input, key, vertex),
         _ => run_text(cases, at, sheet),
     }
 }

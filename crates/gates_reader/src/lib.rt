@@ -1,7 +1,7 @@
 //! Reading a gate sheet: the header, then a line for each gate, then the key nodes. Types, definitions and laws are those of the crates `gates` and `sheet`.
 
 mod building;
-mod gate_lines;
+mod lines;
 
 ghost use Rattle.std.specs.Prelude.{◌≡◌, true};
 ghost use Rattle.gates.specs.GateRows.{gate_count, letter_count, first_line_ok, read_gates};
@@ -24,7 +24,7 @@ fn read_lines(sheet: &[u8], gates: usize, letters: u8) -> Reading
         else {
             return sheet_readings::refusal(Answer::BAD_LINE, (g + 2) as u16);
         };
-        let GateRead::Gate(gate) = gate_lines::decode_gate(gates, letters, g, line) else {
+        let GateRead::Gate(gate) = lines::decode_gate(gates, letters, g, line) else {
             return sheet_readings::refusal(Answer::BAD_GATE_LINE, (g + 2) as u16);
         };
         let output = GateSheet::FIRST_OUTPUT as usize + g;
@@ -47,7 +47,7 @@ pub fn read(sheet: &[u8]) -> Reading
     let LineRead::Five(header) = line_values::read_line(&sheet[..first], GateSheet::COLUMNS) else {
         return sheet_readings::refusal(Answer::BAD_LINE, 1);
     };
-    if !gate_lines::first_line_ok(header, size) {
+    if !lines::first_line_ok(header, size) {
         return sheet_readings::refusal(Answer::BAD_GATE_LINE, 1);
     }
     read_lines(sheet, header.second as usize, header.third as u8)

@@ -6,7 +6,7 @@ ghost use Rattle.ternary.specs.Lists.{least_below};
 ghost use Rattle.net.specs.Limits.{most_vertices};
 ghost use Rattle.net.specs.Graph.{is_storage};
 ghost use Rattle.net.specs.SignalTable.{signal_count};
-ghost use Rattle.net.specs.Tables.{Prepared, input_labels};
+ghost use Rattle.net.specs.Tables.{Prepared};
 ghost use Rattle.sheet.specs.Checked.{Checked};
 ghost use Rattle.sheet.specs.Graph.{over_signals, signal_place};
 ghost use Rattle.sheet.specs.Search.{found_of};
@@ -19,13 +19,12 @@ fn signal_count<'a>(
     net: Net,
     storage: &'a [u8; Net::VERTEX_PLACES],
     labels: &'a [u8; Net::VERTEX_PLACES],
-    inputs: &'a [u16; Net::VERTEX_PLACES],
     y: u8,
 ) -> usize
-    requires { Prepared net storage.now labels.now × (inputs.now ≡ input_labels net) × (is_storage net y ≡ true) }
+    requires { Prepared net storage.now labels.now × (is_storage net y ≡ true) }
     ensures { result ≡ signal_count net y }
 {
-    let flags = signals::signal_flags(net, storage, labels, inputs, y);
+    let flags = signals::signal_flags(net, storage, labels, y);
     flags::count_flags(&flags)
 }
 
@@ -34,10 +33,9 @@ fn over_signals<'a>(
     net: Net,
     storage: &'a [u8; Net::VERTEX_PLACES],
     labels: &'a [u8; Net::VERTEX_PLACES],
-    inputs: &'a [u16; Net::VERTEX_PLACES],
     y: u8,
 ) -> bool
-    requires { Prepared net storage.now labels.now × (inputs.now ≡ input_labels net) × (y ≤ most_vertices) × (least_below y (over_signals net) ≡ none) }
+    requires { Prepared net storage.now labels.now × (y ≤ most_vertices) × (least_below y (over_signals net) ≡ none) }
     ensures { result ≡ over_signals net y }
 {
     if storage[y as usize] != 1 {
@@ -46,7 +44,7 @@ fn over_signals<'a>(
     if component_labels::lowest_member(storage, labels, y) != y {
         return false;
     }
-    Net::MOST_SIGNALS < signal_count(net, storage, labels, inputs, y)
+    Net::MOST_SIGNALS < signal_count(net, storage, labels, y)
 }
 
 // The lowest vertex of a component with too many signals.
@@ -54,15 +52,14 @@ fn signal_place<'a>(
     net: Net,
     storage: &'a [u8; Net::VERTEX_PLACES],
     labels: &'a [u8; Net::VERTEX_PLACES],
-    inputs: &'a [u16; Net::VERTEX_PLACES],
 ) -> Found
-    requires { Prepared net storage.now labels.now × (inputs.now ≡ input_labels net) }
+    requires { Prepared net storage.now labels.now }
     ensures { result ≡ found_of (signal_place net) }
 {
     let last = net.vertex_count;
     let mut y: u8 = 0;
     while y <= last {
-        if over_signals(net, storage, labels, inputs, y) {
+        if over_signals(net, storage, labels, y) {
             return Found::At(y as u16);
         }
         y += 1;
@@ -77,6 +74,5 @@ pub(crate) fn signal_row(net: Net) -> Found
 {
     let storage = graph::storage_flags(net);
     let labels = component_labels::component_labels(net, &storage);
-    let inputs = signals::input_labels(net);
-    signal_place(net, &storage, &labels, &inputs)
+    signal_place(net, &storage, &labels)
 }

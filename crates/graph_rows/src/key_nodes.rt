@@ -1,7 +1,6 @@
 // Row 22: the key nodes of a net.
 
 ghost use Rattle.std.specs.Prelude.{◌≡◌, ◌≤◌, ◌<◌};
-ghost use Rattle.net.specs.declared.Net.{Net};
 ghost use Rattle.net.specs.Limits.{most_vertices};
 ghost use Rattle.net.specs.Tables.{key_flags};
 ghost use Rattle.sheet.specs.Checked.{Checked};
@@ -19,13 +18,14 @@ fn wide(x: u8) -> usize
 }
 
 // The vertex of the first key node above the limit.
-fn key_place(count: usize, keys: &[u8; Net::VERTEX_PLACES]) -> Found
-    requires { count ≤ most_vertices }
-    ensures { (N : Net) → count ≡ N.vertex_count → keys.now ≡ key_flags N → result ≡ found_of (key_place N) }
+fn key_place(net: Net, keys: &[u8; Net::VERTEX_PLACES]) -> Found
+    requires { (net.vertex_count ≤ most_vertices) × (keys.now ≡ key_flags net) }
+    ensures { result ≡ found_of (key_place net) }
 {
+    let last = net.vertex_count as usize;
     let mut found: usize = 0;
     let mut v: usize = 0;
-    while v <= count {
+    while v <= last {
         found += wide(keys[v]);
         if Net::MOST_KEY_NODES < found {
             return Found::At(v as u16);
@@ -42,5 +42,5 @@ pub(crate) fn key_row(net: Net) -> Found
 {
     let storage = graph::storage_flags(net);
     let keys = graph::key_flags(net, &storage);
-    key_place(net.vertex_count as usize, &keys)
+    key_place(net, &keys)
 }

@@ -3,11 +3,11 @@ ghost use Rattle.std.specs.Prelude.{◌≡◌, ◌*◌, ◌^◌, ◌<◌, length
 ghost use Rattle.ternary.specs.TruthTable.{signal_kinds, agree, grow};
 ghost use Rattle.lanes.specs.Grid.{cell, set_row};
 ghost use Rattle.excitations.specs.Fit.{Fit};
-ghost use Rattle.records.specs.Tables.{key_tables};
+ghost use Rattle.excitations.specs.Excitations.{excitation_lanes};
+ghost use Rattle.states.specs.Weights.{key_vertices};
 ghost use Rattle.lookups.specs.TernaryTables.{ternary_tables};
 
 use net::Net;
-use records::Record;
 use ternary::Signal;
 
 // The value that two signals share, else X.
@@ -44,17 +44,21 @@ fn grow(table: &[u8], out: &mut [u8], n: u8)
     join(out, third);
 }
 
-// The ternary tables of all key nodes, from the truth tables that a record holds.
-pub fn tables(net: Net, tables: &[u8; Record::TABLES]) -> [u8; Net::TERNARY_TABLES]
-    requires { Fit net × (tables.now ≡ key_tables net) }
+// The ternary tables of all key nodes, from the rows of their excitations.
+pub fn tables<'a>(
+    net: Net,
+    keys: &'a [u8; Net::MOST_KEY_NODES],
+    excitations: &'a [u8; Net::VERTEX_LANES],
+) -> [u8; Net::TERNARY_TABLES]
+    requires { Fit net × (keys.now ≡ key_vertices net) × (excitations.now ≡ excitation_lanes net) }
     ensures { result ≡ ternary_tables net }
 {
     let count = graph::key_count(net);
     // Parts are taken of a slice.
-    let lanes = &tables[..];
+    let lanes = &excitations[..];
     let mut rows = [0u8; Net::TERNARY_TABLES];
     for k in 0..count {
-        let from = k * Net::ASSIGNMENTS;
+        let from = lane_values::wide(keys[k]) * Net::ASSIGNMENTS;
         let to = from + Net::ASSIGNMENTS;
         let start = k * Net::TERNARY_ASSIGNMENTS;
         let end = start + Net::TERNARY_ASSIGNMENTS;

@@ -7,7 +7,7 @@ use Rattle.ternary.specs.Excitation.{common, H}
 use Rattle.ternary.specs.Passes as passes
 use Rattle.net.specs.declared.Net.{Net}
 use Rattle.net.proofs.Concrete.{vertex, edge, net}
-use Rattle.sheet.specs.Rows.{by_rows_lem}
+use Rattle.sheet.specs.Rows.{by_rows}
 use Rattle.sheet.specs.Writing.{write_sheet}
 use Rattle.sheet.specs.Text.{bytes, text}
 use Rattle.sheet.proofs.Sheets.{open_all, worked_sheet}
@@ -19,7 +19,7 @@ use Rattle.output.specs.Output.{first_line, judged_of, opening_text, batch_for, 
 
 opened : Unit {0}
 unfolding
-    open_all every common H passes.settle_by passes.mix passes.first_pass passes.second_pass passes.settled by_rows_lem verdict_rows verdict_of written settle_under
+    open_all every common H passes.settle_by passes.mix passes.first_pass passes.second_pass passes.settled by_rows verdict_rows verdict_of written settle_under
     job_count pieces job_rows job_settlement run_jobs batch_rows batch_of vector_text job_text job_texts first_line judged_of opening_text batch_for net_text jobs_text output_of
 opened = tt
 

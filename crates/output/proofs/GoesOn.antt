@@ -24,7 +24,7 @@ use Rattle.soundness.specs.Verdict.{verdict_rows, verdict_of}
 use Rattle.settlements.specs.Batch.{job_count, job_width, answer_width, Batch, run_jobs, batch_rows}
 use Rattle.settlements.proofs.BatchLaws.{batch_accepts, batch_zero}
 use Rattle.settlements.proofs.PieceLaws.{jobs_of}
-use Rattle.output.specs.Output.{goes_on_lem, batch_for}
+use Rattle.output.specs.Output.{goes_on, batch_for}
 
 -- the record is one that an accepted sheet gives, and C1 holds
 abbrev pub Runs : Net → Type 0
@@ -33,7 +33,7 @@ Runs N = (valid N ≡ true) × (place_c1 N ≡ none)
 -- ---- by the verdict
 
 rows_go_on : (v : Bool) (c1 c2 c3 : Option ℕ)
-    → (goes_on_lem (answered (first_row (row 41 (when (not v)) ∷ row 31 c1 ∷ row 32 c2 ∷ row 33 c3 ∷ []))).number ≡ true) ↔ ((v ≡ true) × (c1 ≡ none))
+    → (goes_on (answered (first_row (row 41 (when (not v)) ∷ row 31 c1 ∷ row 32 c2 ∷ row 33 c3 ∷ []))).number ≡ true) ↔ ((v ≡ true) × (c1 ≡ none))
 unfolding first_row
 rows_go_on false c1 c2 c3 = (λ e. absurd (false≢true e), λ h. absurd (false≢true h.0))
 rows_go_on true (some p) c2 c3 = (λ e. absurd (false≢true e), λ h. absurd (true≢false (cc)))
@@ -41,7 +41,7 @@ rows_go_on true none (some p) c3 = (λ _. (refl, refl), λ _. refl)
 rows_go_on true none none (some p) = (λ _. (refl, refl), λ _. refl)
 rows_go_on true none none none = (λ _. (refl, refl), λ _. refl)
 
-pub runs_iff : (N : Net) → (goes_on_lem (verdict_of N).number ≡ true) ↔ Runs N
+pub runs_iff : (N : Net) → (goes_on (verdict_of N).number ≡ true) ↔ Runs N
 unfolding verdict_of verdict_rows
 runs_iff N = rows_go_on (valid N) (place_c1 N) (when (not (test_c2 N))) (place_c3 N)
 
@@ -69,8 +69,8 @@ module _ (sheet : List ℕ) (N : Net) (reads : read_sheet sheet ≡ accepted N) 
   by_c1 : Runs N ↔ (place_c1 N ≡ none)
   by_c1 = (λ h. h.1, λ c. (read_valid field_width sheet N reads, c))
 
-  pub goes_on_lem : (goes_on_lem (verdict_of N).number ≡ true) ↔ (place_c1 N ≡ none)
+  pub goes_on_lem : (goes_on (verdict_of N).number ≡ true) ↔ (place_c1 N ≡ none)
   goes_on_lem = Iff.trans (runs_iff N) by_c1
 
-  pub batch-goes_on : (lines : List ℕ) → ((batch_for N lines).answer.number ≡ 0) ↔ (goes_on_lem (verdict_of N).number ≡ true)
+  pub batch-goes_on : (lines : List ℕ) → ((batch_for N lines).answer.number ≡ 0) ↔ (goes_on (verdict_of N).number ≡ true)
   batch-goes_on lines = Iff.trans (batch_iff N lines) (Iff.symm (runs_iff N))

@@ -21,7 +21,7 @@ use Rattle.settlements.proofs.PieceLaws.{jobs_of}
 use Rattle.settlements.proofs.RunLaws.{results_length, answers_length}
 use Rattle.output.specs.Limits.{piece_jobs, job_bytes, piece_bytes}
 use Rattle.output.specs.Text.{job_texts}
-use Rattle.output.specs.Output.{goes_on_lem, net_text, jobs_text}
+use Rattle.output.specs.Output.{goes_on, net_text, jobs_text}
 use Rattle.output.specs.Calls.{read_lines}
 use Rattle.output.proofs.Lengths.{length-jobs}
 use Rattle.output.proofs.ReadLines.{read_few, jobs_few}
@@ -55,7 +55,7 @@ module _ (sheet : List ℕ) where
   unfolding jobs_text net_text
   by_prints f g =
       by_test (eqb (read_sheet sheet).answer.number 0)
-      (λ e. by_test (goes_on_lem (verdict_of (read_sheet sheet).net).number)
+      (λ e. by_test (goes_on (verdict_of (read_sheet sheet).net).number)
       (λ d. f (eqb-true (read_sheet sheet).answer.number 0 e, (runs_iff (read_sheet sheet).net).0 d))
       (λ d. g (λ n lines. rw (e, d))))
       (λ e. g (λ n lines. rw e))

@@ -25,7 +25,7 @@ use Rattle.sheet.proofs.Outcome.{outcome, accepted-at_zero}
 use Rattle.settlements.specs.Batch.{job_count}
 use Rattle.output.specs.Limits.{opening_bytes, job_bytes}
 use Rattle.output.specs.declared.Judged.{Judged}
-use Rattle.output.specs.Output.{goes_on_lem, judged_of, opening_text, jobs_text, output_of}
+use Rattle.output.specs.Output.{goes_on, judged_of, opening_text, jobs_text, output_of}
 use Rattle.output.specs.Printed.{printed_line, printed_answer}
 use Rattle.output.proofs.Lengths.{length-number, length_opening}
 use Rattle.output.proofs.GoesOn.{runs_iff}
@@ -76,7 +76,7 @@ module _ (sheet jobs : List ℕ) (n : ℕ) where
 -- ---- the whole text
 
 -- after each number of the reader the program ends
-listed_ends : {number place : ℕ} → Listed number place → goes_on_lem number ≡ false
+listed_ends : {number place : ℕ} → Listed number place → goes_on number ≡ false
 listed_ends size = refl
 listed_ends (fields _ _ _) = refl
 listed_ends header_line_lem = refl
@@ -87,15 +87,15 @@ listed_ends (partner _ _ _) = refl
 listed_ends (too_many_key_nodes _ _ _) = refl
 listed_ends (signals _ _ _) = refl
 
-reader_ends : {r : Reading} → Outcome r → eqb r.answer.number 0 ≡ false → goes_on_lem r.answer.number ≡ false
+reader_ends : {r : Reading} → Outcome r → eqb r.answer.number 0 ≡ false → goes_on r.answer.number ≡ false
 reader_ends (accept N) e = absurd (true≢false e)
 reader_ends (refuse l) e = listed_ends l
 
 -- the program goes on only where the jobs are run, and the first line then shows the net's h
-pub goes_prints : (sheet : List ℕ) → goes_on_lem (judged_of sheet).answer.number ≡ true → Prints sheet × ((judged_of sheet).keys ≡ key_count (read_sheet sheet).net)
+pub goes_prints : (sheet : List ℕ) → goes_on (judged_of sheet).answer.number ≡ true → Prints sheet × ((judged_of sheet).keys ≡ key_count (read_sheet sheet).net)
 unfolding judged_of
 goes_prints sheet =
-    cond_by (λ (j : Judged). goes_on_lem j.answer.number ≡ true → Prints sheet × (j.keys ≡ key_count (read_sheet sheet).net)) (eqb (read_sheet sheet).answer.number 0)
+    cond_by (λ (j : Judged). goes_on j.answer.number ≡ true → Prints sheet × (j.keys ≡ key_count (read_sheet sheet).net)) (eqb (read_sheet sheet).answer.number 0)
     (λ e g. ((eqb-true (read_sheet sheet).answer.number 0 e, (runs_iff (read_sheet sheet).net).0 g), refl))
     (λ e g. absurd (not_both _ g (reader_ends (outcome field_width sheet) e)))
 
@@ -104,11 +104,11 @@ module _ (sheet jobs : List ℕ) where
   unfolding output_of
   output-first = take_at (opening_text sheet) _ opening_bytes (length_opening sheet)
 
-  pub output-ends : goes_on_lem (judged_of sheet).answer.number ≡ false → output_of sheet jobs ≡ opening_text sheet
+  pub output-ends : goes_on (judged_of sheet).answer.number ≡ false → output_of sheet jobs ≡ opening_text sheet
   unfolding output_of
   output-ends e = rw (no_jobs sheet e 1 (lines_read jobs)) (append-nil (opening_text sheet))
 
-  pub output_size : goes_on_lem (judged_of sheet).answer.number ≡ true → length (output_of sheet jobs) ≡ opening_bytes + job_count (lines_read jobs) * job_bytes (judged_of sheet).keys
+  pub output_size : goes_on (judged_of sheet).answer.number ≡ true → length (output_of sheet jobs) ≡ opening_bytes + job_count (lines_read jobs) * job_bytes (judged_of sheet).keys
   output_size e =
       let g = goes_prints sheet e in
       output-length sheet jobs ∙ rw (length-printed sheet g.0 1 (lines_read jobs), g.1)

@@ -16,7 +16,7 @@ use Rattle.output.specs.declared.Written.TheVariants.{Bytes, Last}
 use Rattle.output.specs.declared.Next.{Next}
 use Rattle.output.specs.declared.Next.TheVariants.{Piece, End}
 use Rattle.output.specs.Limits.{most_jobs, piece_jobs, piece_lines, opening_bytes, piece_bytes}
-use Rattle.output.specs.Output.{goes_on_lem, judged_of, opening_text, jobs_text, output_of}
+use Rattle.output.specs.Output.{goes_on, judged_of, opening_text, jobs_text, output_of}
 use Rattle.output.specs.Calls.{put, opening_of, read_lines, piece_of}
 use Rattle.output.specs.Program.{written_part, written_of, after_opening, after_piece, Onward, text_from, most_pieces, program_text}
 use Rattle.output.proofs.Pieces.{take_min, jobs_none, jobs_split}
@@ -37,7 +37,7 @@ part_is false text rest = take_at text rest (length text) refl
 
 pub opening_written : (sheet out : List ℕ) → opening_bytes ≤ length out → written_of (opening_of sheet out) ≡ opening_text sheet
 unfolding opening_of put
-opening_written sheet out room = rw (le-ltb (length out) opening_bytes room) (part_is (goes_on_lem (judged_of sheet).answer.number) (opening_text sheet) _)
+opening_written sheet out room = rw (le-ltb (length out) opening_bytes room) (part_is (goes_on (judged_of sheet).answer.number) (opening_text sheet) _)
 
 pub piece-written : (sheet out : List ℕ) → piece_bytes ≤ length out → (n : ℕ) (lines : List ℕ) → written_of (piece_of sheet n lines out) ≡ jobs_text sheet n (read_lines n lines)
 unfolding piece_of put
@@ -143,7 +143,7 @@ jobs-after : (sheet first_out out jobs : List ℕ) → opening_bytes ≤ length 
 unfolding opening_of put after_opening
 jobs-after sheet first_out out jobs first-room room =
     rw (le-ltb (length first_out) opening_bytes first-room)
-    (by_test (goes_on_lem (judged_of sheet).answer.number)
+    (by_test (goes_on (judged_of sheet).answer.number)
     (λ t. rw t (pieces-from sheet out room most_pieces 1 jobs (omega arith) (omega arith)))
     (λ t. rw t (text_end sheet out most_pieces jobs ∙ sym (no_jobs sheet t 1 _))))
 

@@ -4,7 +4,7 @@ use Rattle.sheet.specs.Limits.{line_width}
 use Rattle.output.specs.declared.Written.{Written}
 use Rattle.output.specs.declared.Written.TheVariants.{Short, Bytes, Last}
 use Rattle.output.specs.Limits.{most_jobs, piece_jobs, opening_bytes, piece_bytes}
-use Rattle.output.specs.Output.{judged_of, opening_text, goes_on_lem, jobs_text}
+use Rattle.output.specs.Output.{judged_of, opening_text, goes_on, jobs_text}
 
 -- an answer, and what the lent buffer then holds
 pub record Report : Type 0 where
@@ -20,7 +20,7 @@ put says room text out = cond (ltb (length out) room) (report Short out) (report
 
 -- after some numbers nothing follows the first line
 abbrev pub opening_says : ℕ → ℕ → Written
-opening_says number n = cond (goes_on_lem number) (Bytes n) (Last n)
+opening_says number n = cond (goes_on number) (Bytes n) (Last n)
 
 -- the first line
 unfoldable pub opening_of : List ℕ → List ℕ → Report

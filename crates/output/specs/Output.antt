@@ -32,8 +32,8 @@ unfoldable pub opening_text : List ℕ → List ℕ
 opening_text sheet = first_line (judged_of sheet).answer (judged_of sheet).keys
 
 -- after these verdicts the jobs are run: well formed, or C2 or C3 alone broken
-abbrev pub goes_on_lem : ℕ → Bool
-goes_on_lem number = eqb number 0 || eqb number 32 || eqb number 33
+abbrev pub goes_on : ℕ → Bool
+goes_on number = eqb number 0 || eqb number 32 || eqb number 33
 
 -- what a batch of these lines gives, in buffers of just the size they need
 unfoldable pub batch_for : Net → List ℕ → Batch
@@ -43,7 +43,7 @@ batch_for N lines = batch_of N lines (replicate (job_count lines * job_width N) 
 unfoldable pub net_text : Net → ℕ → List ℕ → List ℕ
 net_text N n lines =
     let batch = batch_for N lines in
-    cond (goes_on_lem (verdict_of N).number) (job_texts (key_count N) (job_count lines) n batch.buffers.results batch.buffers.answers) []
+    cond (goes_on (verdict_of N).number) (job_texts (key_count N) (job_count lines) n batch.buffers.results batch.buffers.answers) []
 
 -- the same on the net of a sheet; nothing for a sheet that the reader refuses
 unfoldable pub jobs_text : List ℕ → ℕ → List ℕ → List ℕ

@@ -1,13 +1,10 @@
 //! The lines below the header, counted from 0: first the vertices, then the edges.
 
 ghost use Rattle.std.specs.Prelude.{◌≡◌, ◌≤◌};
-ghost use Rattle.net.specs.declared.Net.{Net};
-ghost use Rattle.net.specs.Symbols.{decode};
 ghost use Rattle.sheet.specs.Reading.{vertex_of, edge_of, vertex_line_ok, edge_line_ok};
-ghost use Rattle.sheet.specs.Entries.{decode_line, refusal_of};
-ghost use Rattle.sheet.specs.Fitting.{Shows};
+ghost use Rattle.sheet.specs.Entries.{decode_line, refusal_of, with_entry, HasPlace};
 
-use net::{Edge, Vertex};
+use net::{Edge, Net, Vertex};
 use sheet::{Answer, Decoded, Entry, Line};
 
 // A record's roles, forms and ends are bytes, its labels and symbols are of two bytes; a larger number of a line is none of them.
@@ -38,8 +35,8 @@ fn edge_of(v: Line) -> Edge
 }
 
 // A vertex line is 2, its number j + 1, role, label and 0. One is taken off the number, for any j may be asked about.
-fn vertex_line_ok(letters: u8, j: usize, v: Line) -> bool
-    ensures { (N : Net) → letters ≡ N.letter_count → result ≡ vertex_line_ok N j v }
+fn vertex_line_ok(net: Net, j: usize, v: Line) -> bool
+    ensures { result ≡ vertex_line_ok net j v }
 {
     if v.kind != Line::VERTEX {
         return false;
@@ -60,12 +57,12 @@ fn vertex_line_ok(letters: u8, j: usize, v: Line) -> bool
     if LARGEST_SYMBOL < v.fourth {
         return false;
     }
-    rules::vertex_ok(letters, vertex_of(v))
+    rules::vertex_ok(net, vertex_of(v))
 }
 
-// An edge line is 3, the ends, form and symbol. role: that of the vertex that the symbol names.
-fn edge_line_ok(vertices: u8, letters: u8, role: u8, v: Line) -> bool
-    ensures { (N : Net) → Shows N vertices letters role (decode v.fifth) → result ≡ edge_line_ok N v }
+// An edge line is 3, the ends, form and symbol.
+fn edge_line_ok(net: Net, v: Line) -> bool
+    ensures { result ≡ edge_line_ok net v }
 {
     if v.kind != Line::EDGE {
         return false;
@@ -82,21 +79,21 @@ fn edge_line_ok(vertices: u8, letters: u8, role: u8, v: Line) -> bool
     if LARGEST_SYMBOL < v.fifth {
         return false;
     }
-    rules::edge_ok(vertices, letters, role, edge_of(v))
+    rules::edge_ok(net, edge_of(v))
 }
 
-// What line j is: a vertex where j is below the vertex count, else an edge; or the number of its refusal. role: that of the vertex that the line's last field
-// names.
-pub(crate) fn decode_line(vertices: u8, letters: u8, role: u8, j: usize, v: Line) -> Decoded
-    ensures { (N : Net) → Shows N vertices letters role (decode v.fifth) → result ≡ decode_line N j v }
+// What line j is: a vertex where j is below the vertex count, else an edge; or the number of its refusal.
+pub(crate) fn decode_line(net: Net, j: usize, v: Line) -> Decoded
+    ensures { result ≡ decode_line net j v }
 {
-    if j < vertices as usize {
-        if !vertex_line_ok(letters, j, v) {
+    let vertices = net.vertex_count as usize;
+    if j < vertices {
+        if !vertex_line_ok(net, j, v) {
             return Decoded::Refused(Answer::BAD_VERTEX);
         }
         return Decoded::Allowed(Entry::Vertex(vertex_of(v)));
     }
-    if !edge_line_ok(vertices, letters, role, v) {
+    if !edge_line_ok(net, v) {
         return Decoded::Refused(Answer::BAD_EDGE);
     }
     Decoded::Allowed(Entry::Edge(edge_of(v)))
@@ -109,5 +106,24 @@ pub(crate) fn refusal_of(decoded: Decoded) -> u8
     match decoded {
         Decoded::Allowed(_) => 0,
         Decoded::Refused(number) => number,
+    }
+}
+
+// The record with what line j adds.
+pub(crate) fn with_entry(net: Net, j: usize, entry: Entry) -> Net
+    requires { HasPlace net j entry }
+    ensures { result ≡ with_entry net j entry }
+{
+    let mut next = net;
+    match entry {
+        Entry::Vertex(vertex) => {
+            next.vertices[j] = vertex;
+            next
+        }
+        Entry::Edge(edge) => {
+            let i = j - net.vertex_count as usize;
+            next.edges[i] = edge;
+            next
+        }
     }
 }

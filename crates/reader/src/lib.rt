@@ -10,7 +10,7 @@ ghost use Rattle.sheet.specs.Reading.{read_lines, read_in, read_sheet};
 ghost use Rattle.sheet.specs.Rules.{header_ok};
 
 use net::Net;
-use sheet::{Answer, Decoded, Entry, Line, LineRead, Reading, Sheet};
+use sheet::{Answer, Decoded, Line, LineRead, Reading, Sheet};
 
 // A header is 1, vertices, edges, letters and the edition.
 fn header_ok(h: Line) -> bool
@@ -31,8 +31,6 @@ fn read_lines(sheet: &[u8], columns: usize, start: Net, count: usize) -> Reading
     ensures { result ≡ read_lines columns count (drop (line_bytes columns) sheet.now) 0 start }
 {
     let width = sheet::line_bytes(columns);
-    let vertices = start.vertex_count;
-    let letters = start.letter_count;
     let mut net = start;
     let mut at = width;
     let mut j: usize = 0;
@@ -41,20 +39,11 @@ fn read_lines(sheet: &[u8], columns: usize, start: Net, count: usize) -> Reading
         let LineRead::Five(line) = line_values::read_line(&sheet[at..end], columns) else {
             return sheet_readings::refusal(Answer::BAD_LINE, (j + 2) as u16);
         };
-        let named = rules::named_place(line.fifth);
-        let role = net.vertices[named].role;
-        let decoded = body::decode_line(vertices, letters, role, j, line);
+        let decoded = body::decode_line(net, j, line);
         let Decoded::Allowed(entry) = decoded else {
             return sheet_readings::refusal(body::refusal_of(decoded), (j + 2) as u16);
         };
-        match entry {
-            Entry::Vertex(vertex) => {
-                net.vertices[j] = vertex;
-            }
-            Entry::Edge(edge) => {
-                net.edges[j - vertices as usize] = edge;
-            }
-        }
+        net = body::with_entry(net, j, entry);
         at = end;
         j += 1;
     }

@@ -1,14 +1,11 @@
 //! The record test: is a record one that some accepted sheet gives?
 //! Types, definitions and laws are those of the crate `sheet`.
 
-ghost use Rattle.std.specs.Prelude.{◌≡◌, ℕ, ltb, get_or};
+ghost use Rattle.std.specs.Prelude.{◌≡◌, ◌<◌};
 ghost use Rattle.ternary.specs.Lists.{all_below};
-ghost use Rattle.net.specs.declared.Net.{Net};
 ghost use Rattle.net.specs.Limits.{most_vertices, most_edges};
-ghost use Rattle.net.specs.Symbols.{decode};
-ghost use Rattle.net.specs.Graph.{no_vertex, no_edge};
 ghost use Rattle.sheet.specs.Valid.{is_no_vertex, is_no_edge, valid};
-ghost use Rattle.sheet.specs.Fitting.{Shows, vertex_fits, edge_fits};
+ghost use Rattle.sheet.specs.Fitting.{vertex_fits, edge_fits};
 
 use net::{Edge, Net, Vertex};
 
@@ -36,12 +33,14 @@ fn is_no_edge(e: Edge) -> bool
     e.symbol == 0
 }
 
-// Is a vertex place as it must be: allowed values where it is in use, else zero?
-fn vertex_fits(used: bool, letters: u8, x: Vertex) -> bool
-    ensures { (N : Net) (i : ℕ) → used ≡ ltb i N.vertex_count → letters ≡ N.letter_count → x ≡ get_or N.vertices i no_vertex → result ≡ vertex_fits N i }
+// Is vertex place i as it must be: allowed values where it is in use, else zero?
+fn vertex_fits(net: Net, i: usize) -> bool
+    requires { i < most_vertices }
+    ensures { result ≡ vertex_fits net i }
 {
-    if used {
-        return rules::vertex_ok(letters, x);
+    let x = net.vertices[i];
+    if i < net.vertex_count as usize {
+        return rules::vertex_ok(net, x);
     }
     is_no_vertex(x)
 }
@@ -49,21 +48,22 @@ fn vertex_fits(used: bool, letters: u8, x: Vertex) -> bool
 fn vertices_fit(net: Net) -> bool
     ensures { result ≡ all_below most_vertices (vertex_fits net) }
 {
-    let count = net.vertex_count as usize;
     for i in 0..Net::MOST_VERTICES {
-        if !vertex_fits(i < count, net.letter_count, net.vertices[i]) {
+        if !vertex_fits(net, i) {
             return false;
         }
     }
     true
 }
 
-// The same of an edge place. role: that of the vertex that the edge's symbol names.
-fn edge_fits(used: bool, vertices: u8, letters: u8, role: u8, e: Edge) -> bool
-    ensures { (N : Net) (i : ℕ) → used ≡ ltb i N.edge_count → Shows N vertices letters role (decode e.symbol) → e ≡ get_or N.edges i no_edge → result ≡ edge_fits N i }
+// The same of edge place i.
+fn edge_fits(net: Net, i: usize) -> bool
+    requires { i < most_edges }
+    ensures { result ≡ edge_fits net i }
 {
-    if used {
-        return rules::edge_ok(vertices, letters, role, e);
+    let e = net.edges[i];
+    if i < net.edge_count as usize {
+        return rules::edge_ok(net, e);
     }
     is_no_edge(e)
 }
@@ -71,12 +71,8 @@ fn edge_fits(used: bool, vertices: u8, letters: u8, role: u8, e: Edge) -> bool
 fn edges_fit(net: Net) -> bool
     ensures { result ≡ all_below most_edges (edge_fits net) }
 {
-    let count = net.edge_count as usize;
     for i in 0..Net::MOST_EDGES {
-        let e = net.edges[i];
-        let named = rules::named_place(e.symbol as u32);
-        let role = net.vertices[named].role;
-        if !edge_fits(i < count, net.vertex_count, net.letter_count, role, e) {
+        if !edge_fits(net, i) {
             return false;
         }
     }

@@ -2,18 +2,17 @@
 //! stands in the crate `soundness`.
 
 ghost use Rattle.std.specs.Prelude.{◌≡◌};
-ghost use Rattle.records.specs.Records.{net_of_record};
 ghost use Rattle.soundness.specs.KeyNodes.{key_nodes_of};
 
-use records::Record;
+use net::Net;
 use sheet::Answer;
 use soundness::KeyNodes;
 
 // h, or 41 for a record that no accepted sheet gives.
-pub fn key_nodes(whole: Record) -> KeyNodes
-    ensures { result ≡ key_nodes_of (net_of_record whole) }
+pub fn key_nodes(net: Net) -> KeyNodes
+    ensures { result ≡ key_nodes_of net }
 {
-    if !records_test::is_record(whole) {
+    if !record::is_record(net) {
         return KeyNodes {
             answer: Answer {
                 number: Answer::BAD_RECORD,
@@ -22,7 +21,6 @@ pub fn key_nodes(whole: Record) -> KeyNodes
             count: 0,
         };
     }
-    let net = whole.net;
     let h = graph::key_count(net);
     KeyNodes {
         answer: Answer {

@@ -5,7 +5,6 @@ ghost use Rattle.output.specs.Limits.{opening_bytes};
 ghost use Rattle.output.specs.Output.{judged_of, goes_on};
 ghost use Rattle.output.specs.Calls.{report, opening_says, opening_of};
 
-use net::Net;
 use output::{Judged, Report, Written};
 use sheet::Answer;
 
@@ -13,8 +12,7 @@ use sheet::Answer;
 pub fn judge(sheet: &[u8]) -> Judged
     ensures { result ≡ judged_of sheet.now }
 {
-    let mut excitations = [0u8; Net::VERTEX_LANES];
-    let reading = records_reader::read_filling(sheet, &mut excitations);
+    let reading = reader::read(sheet);
     let read = reading.answer;
     if read.number != 0 {
         return Judged {
@@ -22,9 +20,8 @@ pub fn judge(sheet: &[u8]) -> Judged
             keys: 0,
         };
     }
-    let whole = reading.kept;
-    let net = whole.net;
-    let judged = verdict::judged(whole, &excitations);
+    let net = reading.net;
+    let judged = verdict::verdict(net);
     let h = graph::key_count(net);
     Judged {
         answer: judged,

@@ -17,7 +17,7 @@ use Rattle.settlements.specs.Batch.{answer_width, Batch, batched, batch_of}
 use Rattle.output.specs.declared.Written.TheVariants.{Bytes}
 use Rattle.output.specs.Limits.{piece_jobs, job_bytes, piece_bytes}
 use Rattle.output.specs.Text.{job_texts}
-use Rattle.output.specs.Output.{goes_on_lem, batch_for, net_text}
+use Rattle.output.specs.Output.{goes_on, batch_for, net_text}
 use Rattle.output.specs.Calls.{report, put}
 use Rattle.output.proofs.Lengths.{length-jobs}
 use Rattle.output.proofs.GoesOn.{runs_iff, batch_iff}
@@ -62,7 +62,7 @@ module _ {N : Net} {h count first : ℕ} {lines results answers out : List ℕ} 
     unfolding net_text
     jobs-refused ne =
         put_none piece_bytes (net_text N first lines) out ready.text_room
-        (rw (fails (goes_on_lem (verdict_of N).number) (λ e. ne (number ∙ (batch_iff N lines).1 ((runs_iff N).0 e)))))
+        (rw (fails (goes_on (verdict_of N).number) (λ e. ne (number ∙ (batch_iff N lines).1 ((runs_iff N).0 e)))))
 
     module _ (e : a.number ≡ 0) where
       jobs_text_lem : net_text N first lines ≡ job_texts h count first r s

@@ -16,12 +16,12 @@ pub fn piece<'a, 'b>(sheet: &'a [u8], first: u32, lines: &'a [u8], out: &'b mut 
     if out.len() < Report::PIECE_BYTES {
         return Written::Short;
     }
-    let reading = records_reader::read(sheet);
+    let reading = reader::read(sheet);
     let read = reading.answer;
     if read.number != 0 {
         return Written::Bytes(0);
     }
-    let whole = reading.kept;
+    let net = reading.net;
     let readable = pieces::read_lines(first, lines);
-    Written::Bytes(pieces::write(whole, first, readable, out))
+    Written::Bytes(pieces::write(net, first, readable, out))
 }

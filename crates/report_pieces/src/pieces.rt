@@ -1,7 +1,7 @@
 //! A piece of the jobs: the lines of it that are read, and the text of their jobs on the net of an accepted sheet.
 ghost use Rattle.std.specs.Prelude.{suc, ◌-◌, ◌*◌, ◌≤◌, min, ◌≡◌, true, length, replicate};
 ghost use Rattle.sheet.specs.Limits.{line_width};
-ghost use Rattle.records.specs.Records.{is_record};
+ghost use Rattle.sheet.specs.Valid.{valid};
 ghost use Rattle.output.specs.declared.Written.TheVariants.{Bytes};
 ghost use Rattle.output.specs.Limits.{most_jobs, piece_jobs, piece_bytes};
 ghost use Rattle.output.specs.Output.{net_text};
@@ -10,7 +10,6 @@ ghost use Rattle.report_pieces.specs.Pieces.{result_bytes, answer_bytes, Ready};
 
 use net::Net;
 use output::Report;
-use records::Record;
 use settlements::Settling;
 use sheet::Sheet;
 
@@ -61,7 +60,7 @@ fn answer_buffer() -> [u8; ANSWER_BYTES]
 
 // Runs the jobs, and writes their lines unless the batch is refused. Answers how many bytes it wrote.
 fn run<'a, 'b>(
-    whole: Record,
+    net: Net,
     h: usize,
     count: usize,
     first: usize,
@@ -70,10 +69,10 @@ fn run<'a, 'b>(
     answers: &'b mut [u8],
     out: &'b mut [u8],
 ) -> u32
-    requires { (is_record whole ≡ true) × Ready whole.net h count first lines.now results.old answers.old out.old }
-    ensures { report (Bytes result) out.new ≡ put Bytes piece_bytes (net_text whole.net first lines.now) out.old }
+    requires { Ready net h count first lines.now results.old answers.old out.old }
+    ensures { report (Bytes result) out.new ≡ put Bytes piece_bytes (net_text net first lines.now) out.old }
 {
-    let answer = settling::batch_tested(whole, lines, results, answers);
+    let answer = settling::batch(net, lines, results, answers);
     if answer.number != 0 {
         return 0;
     }
@@ -82,19 +81,18 @@ fn run<'a, 'b>(
 }
 
 // Writes the text of the jobs of lines that are read, and answers how many bytes it has.
-pub(crate) fn write<'a, 'b>(whole: Record, first: u32, lines: &'a [u8], out: &'b mut [u8]) -> u32
-    requires { (is_record whole ≡ true) × (length lines.now ≤ piece_jobs * line_width) × (piece_bytes ≤ length out.old) }
-    ensures { report (Bytes result) out.new ≡ put Bytes piece_bytes (net_text whole.net first lines.now) out.old }
+pub(crate) fn write<'a, 'b>(net: Net, first: u32, lines: &'a [u8], out: &'b mut [u8]) -> u32
+    requires { (valid net ≡ true) × (length lines.now ≤ piece_jobs * line_width) × (piece_bytes ≤ length out.old) }
+    ensures { report (Bytes result) out.new ≡ put Bytes piece_bytes (net_text net first lines.now) out.old }
 {
     let count = job_tests::job_count(lines);
-    let net = whole.net;
     let h = graph::key_count(net);
     let results_end = count * (Settling::VECTORS * h);
     let answers_end = count * Settling::ANSWER_BYTES;
     let mut results = result_buffer();
     let mut answers = answer_buffer();
     run(
-        whole,
+        net,
         h,
         count,
         first as usize,

@@ -1,15 +1,11 @@
 //! Rules: the values that the counts of a header, a vertex and an edge may have.
 //! Types, definitions and laws are those of the crates `net` and `sheet`.
 
-ghost use Rattle.std.specs.Prelude.{◌≡◌, ◌&&◌, ◌-◌, ◌<◌, leb};
-ghost use Rattle.net.specs.declared.Net.{Net};
-ghost use Rattle.net.specs.Limits.{most_vertices};
-ghost use Rattle.net.specs.Symbols.{within, decode};
-ghost use Rattle.net.specs.Tables.{vertex_of};
-ghost use Rattle.net.specs.Graph.{vertex_at, is_storage};
+ghost use Rattle.std.specs.Prelude.{◌≡◌, ◌&&◌, leb};
+ghost use Rattle.net.specs.Symbols.{within};
+ghost use Rattle.net.specs.Graph.{is_storage};
 ghost use Rattle.net.specs.Known.{known_symbol, known_label};
 ghost use Rattle.sheet.specs.Rules.{counts_ok, vertex_ok, symbol_ok, edge_ok, form_of};
-ghost use Rattle.sheet.specs.Fitting.{Shows};
 
 use net::{Edge, Net, Symbol, Vertex};
 use sheet::Form;
@@ -51,13 +47,18 @@ fn is_vertex(count: u8, v: u8) -> bool
     v <= count
 }
 
-// Whether v, which has this role, is a storage vertex.
-fn is_storage(vertices: u8, role: u8, v: u8) -> bool
-    ensures { (N : Net) → vertices ≡ N.vertex_count → role ≡ (vertex_at N v).role → result ≡ is_storage N v }
+// Whether v is a storage vertex. In a record that is not valid the count may go beyond the places, where no vertex is.
+fn is_storage(net: Net, v: u8) -> bool
+    ensures { result ≡ is_storage net v }
 {
-    if !is_vertex(vertices, v) {
+    if !is_vertex(net.vertex_count, v) {
         return false;
     }
+    let i = (v - 1) as usize;
+    if Net::MOST_VERTICES <= i {
+        return false;
+    }
+    let role = net.vertices[i].role;
     match role {
         Vertex::STORAGE..=Vertex::OUTPUT => true,
         _ => false,
@@ -65,64 +66,51 @@ fn is_storage(vertices: u8, role: u8, v: u8) -> bool
 }
 
 // Whether an input vertex may carry the symbol.
-fn known_label(letters: u8, s: Symbol) -> bool
-    ensures { (N : Net) → letters ≡ N.letter_count → result ≡ known_label N s }
+fn known_label(net: Net, s: Symbol) -> bool
+    ensures { result ≡ known_label net s }
 {
     match s {
         Symbol::Constant(_) => true,
-        Symbol::Letter(j) => j <= letters,
+        Symbol::Letter(j) => j <= net.letter_count,
         Symbol::Vertex(_) => false,
         Symbol::Unknown => false,
     }
 }
 
-// Whether an edge may have the symbol. role: that of the vertex that the symbol names.
-fn known_symbol(vertices: u8, letters: u8, role: u8, s: Symbol) -> bool
-    ensures { (N : Net) → Shows N vertices letters role s → result ≡ known_symbol N s }
+// Whether an edge may have the symbol.
+fn known_symbol(net: Net, s: Symbol) -> bool
+    ensures { result ≡ known_symbol net s }
 {
     match s {
         Symbol::Constant(_) => true,
-        Symbol::Letter(j) => j <= letters,
-        Symbol::Vertex(v) => is_storage(vertices, role, v),
+        Symbol::Letter(j) => j <= net.letter_count,
+        Symbol::Vertex(v) => is_storage(net, v),
         Symbol::Unknown => false,
     }
 }
 
-// The place in a record of the vertex that a symbol names; where it names none, the first place.
-pub fn named_place(symbol: u32) -> usize
-    ensures { (result ≡ vertex_of (decode symbol) - 1) × (result < most_vertices) }
-{
-    if symbol < Symbol::FIRST_VERTEX as u32 {
-        return 0;
-    }
-    if (Symbol::LAST_VERTEX as u32) < symbol {
-        return 0;
-    }
-    (symbol - Symbol::FIRST_VERTEX as u32) as usize
-}
-
 // An input vertex has a known label, a storage vertex the label 0.
-pub fn vertex_ok(letters: u8, x: Vertex) -> bool
-    ensures { (N : Net) → letters ≡ N.letter_count → result ≡ vertex_ok N x }
+pub fn vertex_ok(net: Net, x: Vertex) -> bool
+    ensures { result ≡ vertex_ok net x }
 {
     let role = x.role;
     match role {
-        Vertex::INPUT => known_label(letters, symbols::decoded(x.label)),
+        Vertex::INPUT => known_label(net, symbols::decoded(x.label)),
         Vertex::STORAGE..=Vertex::OUTPUT => x.label == 0,
         _ => false,
     }
 }
 
 // Whether the form is known and goes with the symbol: a primed form has no constant.
-fn symbol_ok(vertices: u8, letters: u8, role: u8, e: Edge) -> bool
-    ensures { (N : Net) → Shows N vertices letters role (decode e.symbol) → result ≡ (leb e.form 3 && symbol_ok N e) }
+fn symbol_ok(net: Net, e: Edge) -> bool
+    ensures { result ≡ (leb e.form 3 && symbol_ok net e) }
 {
     let s = symbols::decoded(e.symbol);
     match form_of(e.form) {
-        Form::Plain => known_symbol(vertices, letters, role, s),
+        Form::Plain => known_symbol(net, s),
         Form::Primed => {
             if symbols::is_variable(s) {
-                return known_symbol(vertices, letters, role, s);
+                return known_symbol(net, s);
             }
             false
         }
@@ -130,18 +118,18 @@ fn symbol_ok(vertices: u8, letters: u8, role: u8, e: Edge) -> bool
     }
 }
 
-// An edge joins two vertices that differ. role: that of the vertex that its symbol names.
-pub fn edge_ok(vertices: u8, letters: u8, role: u8, e: Edge) -> bool
-    ensures { (N : Net) → Shows N vertices letters role (decode e.symbol) → result ≡ edge_ok N e }
+// An edge joins two vertices that differ.
+pub fn edge_ok(net: Net, e: Edge) -> bool
+    ensures { result ≡ edge_ok net e }
 {
-    if !is_vertex(vertices, e.end1) {
+    if !is_vertex(net.vertex_count, e.end1) {
         return false;
     }
-    if !is_vertex(vertices, e.end2) {
+    if !is_vertex(net.vertex_count, e.end2) {
         return false;
     }
     if e.end1 == e.end2 {
         return false;
     }
-    symbol_ok(vertices, letters, role, e)
+    symbol_ok(net, e)
 }

@@ -7,7 +7,6 @@ ghost use Rattle.io.specs.Counts.{IsPrefixLen};
 use cases::{Case, Input, data_of, next_case, number_at, number_text};
 use libc::{STDIN_FILENO, STDOUT_FILENO};
 use net::Net;
-use records::Record;
 use sheet::Answer;
 use ternary::Signal;
 
@@ -92,8 +91,8 @@ fn print_bytes(buffer: &[u8], in_columns: bool) {
 }
 
 // Settling: number, place, step counts, and both buffers whole.
-fn print_settling(whole: Record, old: u32, new: u32, start: u32, r: &mut [u8], t: &mut [u8]) {
-    let answer = settling::settle(whole, old, new, start, r, t);
+fn print_settling(net: Net, old: u32, new: u32, start: u32, r: &mut [u8], t: &mut [u8]) {
+    let answer = settling::settle(net, old, new, start, r, t);
     print_column(answer.number as u64);
     print_column(answer.place as u64);
     print_column(answer.first_steps as u64);
@@ -105,8 +104,8 @@ fn print_settling(whole: Record, old: u32, new: u32, start: u32, r: &mut [u8], t
 }
 
 // A batch: number, place, and both buffers whole.
-fn print_batch(whole: Record, jobs: &[u8], results: &mut [u8], answers: &mut [u8]) {
-    print_place(settling::batch(whole, jobs, results, answers));
+fn print_batch(net: Net, jobs: &[u8], results: &mut [u8], answers: &mut [u8]) {
+    print_place(settling::batch(net, jobs, results, answers));
     io::write_all(STDOUT_FILENO, b" ");
     print_bytes(results, false);
     io::write_all(STDOUT_FILENO, b" ");
@@ -121,7 +120,7 @@ fn size_at(cases: &[u8], at: usize, buffer: &[u8]) -> usize
 }
 
 // The settling that the case at a place asks for.
-fn run_settling(cases: &[u8], at: usize, whole: Record)
+fn run_settling(cases: &[u8], at: usize, net: Net)
     requires { at < length cases.now }
 {
     let old = number_at(cases, at + Case::FIRST);
@@ -131,11 +130,11 @@ fn run_settling(cases: &[u8], at: usize, whole: Record)
     let mut t = signal_buffer();
     let r_size = size_at(cases, at + Case::FOURTH, &r);
     let t_size = size_at(cases, at + Case::FIFTH, &t);
-    print_settling(whole, old, new, start, &mut r[..r_size], &mut t[..t_size]);
+    print_settling(net, old, new, start, &mut r[..r_size], &mut t[..t_size]);
 }
 
 // The batch that the case at a place asks for. A case of the benchmark prints its answer alone.
-fn run_batch(cases: &[u8], at: usize, whole: Record)
+fn run_batch(cases: &[u8], at: usize, net: Net)
     requires { at < length cases.now }
 {
     let mut results = result_buffer();
@@ -145,14 +144,14 @@ fn run_batch(cases: &[u8], at: usize, whole: Record)
     let jobs = data_of(cases, at);
     if cases[at] == b'B' {
         print_batch(
-            whole,
+            net,
             jobs,
             &mut results[..results_size],
             &mut answers[..answers_size],
         );
     } else {
         print_place(settling::batch(
-            whole,
+            net,
             jobs,
             &mut results[..results_size],
             &mut answers[..answers_size],
@@ -164,11 +163,11 @@ fn run_batch(cases: &[u8], at: usize, whole: Record)
 fn print_answer(cases: &[u8], at: usize, sheet: &[u8])
     requires { at < length cases.now }
 {
-    let recorded = records_reader::read(sheet);
+    let reading = reader::read(sheet);
     match cases[at] {
-        b'N' => print_place(recorded.answer),
-        b'S' => run_settling(cases, at, recorded.kept),
-        _ => run_batch(cases, at, recorded.kept),
+        b'N' => print_place(reading.answer),
+        b'S' => run_settling(cases, at, reading.net),
+        _ => run_batch(cases, at, reading.net),
     }
 }
 

@@ -33,20 +33,19 @@ pub extern "C" fn settle_batch(
 ) -> u32
     ensures { sheet_batch (batched (answer result place.new) results.new answers.new) h.new ≡ sheet_batch_of sheet.now jobs.now results.old answers.old }
 {
-    let reading = records_reader::read(sheet);
+    let reading = reader::read(sheet);
     let read = reading.answer;
     if read.number != 0 {
         *place = read.place as u32;
         *h = 0;
         return read.number as u32;
     }
-    let whole = reading.kept;
-    let net = whole.net;
-    let batch = settling::batch_tested(whole, jobs, results, answers);
+    let net = reading.net;
+    let whole = settling::batch(net, jobs, results, answers);
     let keys = graph::key_count(net);
-    *place = batch.place as u32;
+    *place = whole.place as u32;
     *h = keys as u32;
-    batch.number as u32
+    whole.number as u32
 }
 
 // What a call of the report wrote, as numbers: 0 and how many bytes, or 45 and none.

@@ -8,7 +8,7 @@ use Rattle.ternary.specs.Excitation.{common, H}
 use Rattle.ternary.specs.Passes as passes
 use Rattle.net.specs.declared.Net.{Net}
 use Rattle.net.proofs.Concrete.{vertex, edge, net}
-use Rattle.sheet.specs.Rows.{answer, by_rows_lem}
+use Rattle.sheet.specs.Rows.{answer, by_rows}
 use Rattle.sheet.specs.Record.{empty_net}
 use Rattle.sheet.specs.Text.{bytes}
 use Rattle.sheet.proofs.Sheets.{open_all, worked_net}
@@ -17,7 +17,7 @@ use Rattle.settlements.specs.Batch.{job_count, pieces, job_rows, job_settlement,
 
 opened : Unit {0}
 unfolding
-    open_all every common H passes.settle_by passes.mix passes.first_pass passes.second_pass passes.settled by_rows_lem worked_net written settle_under
+    open_all every common H passes.settle_by passes.mix passes.first_pass passes.second_pass passes.settled by_rows worked_net written settle_under
     settle_rows settle_of job_count pieces job_rows job_settlement run_jobs batch_rows batch_of
 opened = tt
 

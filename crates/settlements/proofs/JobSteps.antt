@@ -10,7 +10,7 @@ use Rattle.net.specs.Graph.{key_count}
 use Rattle.net.specs.Network.{stable}
 use Rattle.sheet.specs.declared.JobLine.{JobLine}
 use Rattle.sheet.specs.declared.JobLine.TheVariants.{Asked, Refused}
-use Rattle.sheet.specs.Rows.{answer, first_row, by_rows_lem}
+use Rattle.sheet.specs.Rows.{answer, first_row, by_rows}
 use Rattle.settlements.specs.Settle.{Settlement, settling, settlement, written, settle_under}
 use Rattle.settlements.specs.Batch.{job_rows, job_settlement}
 use Rattle.settlements.proofs.NumberLaws.{number_of, state_refused, inputs_told, key_told}
@@ -32,9 +32,9 @@ module _ (N : Net) (own : List ℕ) {j : JobLine} where
 
     module _ (states : number_of N A B q ≡ 0) where
       pub not_stable : stable N A q ≡ false → left N own 44 ≡ job_settlement N j own
-      unfolding job_settlement settle_under job_rows by_rows_lem first_row
+      unfolding job_settlement settle_under job_rows by_rows first_row
       not_stable e = rw (asked, inputs_told N A B q states, key_told N A B q states, e)
 
       pub at_rest : stable N A q ≡ true → written N A B q (take (key_count N) own) (drop (key_count N) own) ≡ job_settlement N j own
-      unfolding job_settlement settle_under job_rows by_rows_lem first_row
+      unfolding job_settlement settle_under job_rows by_rows first_row
       at_rest e = rw (asked, inputs_told N A B q states, key_told N A B q states, e)

@@ -12,22 +12,25 @@ use Rattle.net.specs.declared.Net.{Net}
 use Rattle.net.specs.Graph.{key_count}
 use Rattle.net.specs.Network.{stable}
 use Rattle.net.specs.WellFormed.{place_c1}
-use Rattle.sheet.specs.declared.Answer.{Answer}
-use Rattle.sheet.specs.Rows.{answer, row, when, first_row, by_rows_lem}
+use Rattle.sheet.specs.declared.Found.TheVariants.{At}
+use Rattle.sheet.specs.Rows.{answer, row, when, first_row, by_rows}
+use Rattle.sheet.specs.Search.{found_of}
 use Rattle.sheet.specs.Valid.{valid}
-use Rattle.records.specs.Sound.{sound_of}
-use Rattle.records.proofs.SoundLaws.{sound_first}
+use Rattle.sheet.proofs.SearchLaws.{found_some}
 use Rattle.settlements.specs.Settle.{settling, settlement, written, settle_under, settle_rows, settle_of}
 use Rattle.settlements.proofs.NumberLaws.{number_of, state_refused, inputs_told, key_told}
 use Rattle.settlements.proofs.SettleLaws.{settle_some}
 
 module _ (N : Net) (A B q : ℕ) (R T : List ℕ) where
-  -- the record test and C1 come first
-  pub unsound : (a : Answer) → a ≡ sound_of N → a.number ≢ 0 → settlement (settling a.number a.place 0 0) R T ≡ settle_of N A B q R T
-  unfolding settle_of settle_rows
-  unsound a e n = sym (settle_some N A B q _ R T a (sound_first N _ a e n))
+  pub bad_record : valid N ≡ false → settlement (settling 41 0 0 0) R T ≡ settle_of N A B q R T
+  unfolding settle_of settle_under settle_rows by_rows first_row
+  bad_record e = rw e
 
   module _ (ok : valid N ≡ true) where
+    pub breaks_c1 : {p : ℕ} → found_of (place_c1 N) ≡ At p → settlement (settling 31 p 0 0) R T ≡ settle_of N A B q R T
+    unfolding settle_of settle_under settle_rows by_rows first_row
+    breaks_c1 e = rw (ok, found_some (place_c1 N) e)
+
     module _ (c1 : place_c1 N ≡ none) where
       pub bad_state : number_of N A B q ≢ 0 → settlement (settling (number_of N A B q) 0 0 0) R T ≡ settle_of N A B q R T
       unfolding settle_of settle_rows first_row
@@ -35,12 +38,12 @@ module _ (N : Net) (A B q : ℕ) (R T : List ℕ) where
 
       module _ (states : number_of N A B q ≡ 0) where
         pub short_r : length R < key_count N → settlement (settling 45 0 0 0) R T ≡ settle_of N A B q R T
-        unfolding settle_of settle_under settle_rows by_rows_lem first_row
+        unfolding settle_of settle_under settle_rows by_rows first_row
         short_r h = rw (ok, c1, inputs_told N A B q states, key_told N A B q states, lt-ltb (length R) (key_count N) h)
 
         module _ (room : key_count N ≤ length R) where
           pub short_t : length T < key_count N → settlement (settling 45 0 0 0) R T ≡ settle_of N A B q R T
-          unfolding settle_of settle_under settle_rows by_rows_lem first_row
+          unfolding settle_of settle_under settle_rows by_rows first_row
           short_t h =
               rw (
                 ok,
@@ -53,7 +56,7 @@ module _ (N : Net) (A B q : ℕ) (R T : List ℕ) where
 
           module _ (rest : key_count N ≤ length T) where
             pub not_stable : stable N A q ≡ false → settlement (settling 44 0 0 0) R T ≡ settle_of N A B q R T
-            unfolding settle_of settle_under settle_rows by_rows_lem first_row
+            unfolding settle_of settle_under settle_rows by_rows first_row
             not_stable e =
                 rw (
                   ok,
@@ -66,7 +69,7 @@ module _ (N : Net) (A B q : ℕ) (R T : List ℕ) where
                 )
 
             pub at_rest : stable N A q ≡ true → written N A B q R T ≡ settle_of N A B q R T
-            unfolding settle_of settle_under settle_rows by_rows_lem first_row
+            unfolding settle_of settle_under settle_rows by_rows first_row
             at_rest e =
                 rw (
                   ok,

@@ -8,7 +8,7 @@ use Rattle.sheet.specs.Limits.{line_width}
 use Rattle.sheet.specs.declared.Answer.{Answer}
 use Rattle.sheet.specs.declared.JobLine.{JobLine}
 use Rattle.sheet.specs.declared.JobLine.TheVariants.{Asked, Refused}
-use Rattle.sheet.specs.Rows.{Row, row, when, answer, by_rows_lem}
+use Rattle.sheet.specs.Rows.{Row, row, when, answer, by_rows}
 use Rattle.sheet.specs.Valid.{valid}
 use Rattle.sheet.specs.Job.{job_of, job_number}
 use Rattle.settlements.specs.Settle.{Settlement, unsettled, settle_under}
@@ -85,6 +85,6 @@ batch_rows N count results answers =
 unfoldable pub batch_of : Net → List ℕ → List ℕ → List ℕ → Batch
 batch_of N jobs results answers =
     let count = job_count jobs in
-    by_rows_lem (batch_rows N count results answers)
+    by_rows (batch_rows N count results answers)
     (record { answer = answer 0 0; buffers = run_jobs N (pieces count jobs) results answers })
     (λ a. record { answer = a; buffers = record { results = results; answers = answers } })

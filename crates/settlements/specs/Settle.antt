@@ -6,7 +6,7 @@ use Rattle.net.specs.Network.{is_input_state, is_key_state, stable}
 use Rattle.net.specs.WellFormed.{place_c1}
 use Rattle.net.specs.Ternary.{settled}
 use Rattle.sheet.specs.declared.Answer.{Answer}
-use Rattle.sheet.specs.Rows.{Row, row, when, by_rows_lem}
+use Rattle.sheet.specs.Rows.{Row, row, when, by_rows}
 use Rattle.sheet.specs.Valid.{valid}
 use Rattle.settlements.specs.declared.Settling.{Settling}
 
@@ -38,7 +38,7 @@ written N A B q R T =
 
 -- by the rows given: the first that holds refuses, and where none holds the passes are written
 unfoldable pub settle_under : List Row → Net → ℕ → ℕ → ℕ → List ℕ → List ℕ → Settlement
-settle_under rows N A B q R T = by_rows_lem rows (written N A B q R T) (λ a. unsettled a R T)
+settle_under rows N A B q R T = by_rows rows (written N A B q R T) (λ a. unsettled a R T)
 
 -- record; C1 broken; A or B no input state; q no key state; a buffer shorter than h; start not stable under A
 unfoldable pub settle_rows : Net → ℕ → ℕ → ℕ → List ℕ → List ℕ → List Row

@@ -1,13 +1,10 @@
 -- A line below the header, as code tests it, decodes it and adds it to the record.
-use Prim.Native.Nat.{ℕ, suc, ◌+◌, ◌-◌, ◌≤◌, ◌<◌}
+use Prim.Native.Nat.{ℕ, suc, ◌+◌, ◌≤◌, ◌<◌}
 use native.Mathlib.Omega.{arith}
-use mathlib.Core.Path.{◌≡◌, refl, sym, ap, subst, ◌∙◌}
+use mathlib.Core.Path.{◌≡◌, refl, sym, subst}
 use mathlib.Core.Bool.{Bool, true, false, cond, true≢false}
 use lib.Dec.{ltb}
-use lib.ListN.{set}
 use borrow.Author.Tests.{eq-eqb, ne_eqb, eqb-true, lt-ltb, le-ltb, ltb-true, ltb-false}
-use Rattle.net.specs.declared.Vertex.{Vertex as NetVertex}
-use Rattle.net.specs.declared.Edge.{Edge as NetEdge}
 use Rattle.net.specs.declared.Net.{Net}
 use Rattle.net.specs.Limits.{most_vertices, most_edges}
 use Rattle.net.specs.Symbols.{symbol_bound}
@@ -18,9 +15,9 @@ use Rattle.sheet.specs.declared.Entry.TheVariants.{Vertex, Edge}
 use Rattle.sheet.specs.declared.Decoded.{Decoded}
 use Rattle.sheet.specs.declared.Decoded.TheVariants.{Allowed, Refused}
 use Rattle.sheet.specs.Rules.{vertex_ok, edge_ok}
-use Rattle.sheet.specs.Reading.{vertex_of, edge_of, with_vertices, with_edges, vertex_line_ok, edge_line_ok, add_line}
+use Rattle.sheet.specs.Reading.{vertex_of, edge_of, vertex_line_ok, edge_line_ok, add_line}
 use Rattle.sheet.specs.Reading.Step.{next, stop}
-use Rattle.sheet.specs.Entries.{decode_line, with_entry, step_of}
+use Rattle.sheet.specs.Entries.{decode_line, with_entry, step_of, HasPlace}
 use Rattle.sheet.proofs.RuleLaws.{VertexRange, vertex_range, EdgeRange, edge_range}
 
 -- ---- a vertex line
@@ -71,30 +68,6 @@ module _ (N : Net) (v : Line) where
   unfolding edge_line_ok
   edge_line_lem kind = rw (eq-eqb v.kind 3 kind)
 
--- ---- what a line adds
-
--- the record has a place for it
-abbrev pub HasPlace : Net → ℕ → Entry → Type 0
-HasPlace N j (Vertex x) = j < most_vertices
-HasPlace N j (Edge e) = (N.vertex_count ≤ j) × (j - N.vertex_count < most_edges)
-
--- the counts stay
-pub vertices_kept : (N : Net) (j : ℕ) (x : Entry) → N.vertex_count ≡ (with_entry N j x).vertex_count
-vertices_kept N j (Vertex x) = refl
-vertices_kept N j (Edge e) = refl
-
-pub letters_kept : (N : Net) (j : ℕ) (x : Entry) → N.letter_count ≡ (with_entry N j x).letter_count
-letters_kept N j (Vertex x) = refl
-letters_kept N j (Edge e) = refl
-
--- it is stored in place; the code has the vertex count beside the record
-pub vertex_stored : (N : Net) (j : ℕ) (x : Entry) (v : NetVertex) → x ≡ Vertex v → with_vertices N (set N.vertices j v) ≡ with_entry N j x
-vertex_stored N j x v is = ap (with_entry N j) (sym is)
-
-pub edge_stored : (N : Net) (j : ℕ) (x : Entry) (e : NetEdge) (vertices : ℕ) → vertices ≡ N.vertex_count → x ≡ Edge e
-    → with_edges N (set N.edges (j - vertices) e) ≡ with_entry N j x
-edge_stored N j x e vertices count is = ap (λ (n : ℕ). with_edges N (set N.edges (j - n) e)) count ∙ ap (with_entry N j) (sym is)
-
 -- ---- a line, decoded
 
 module _ (N : Net) (j : ℕ) (v : Line) where
@@ -129,7 +102,7 @@ module _ (N : Net) (j : ℕ) (v : Line) where
       go false c true = refl
       go false c false = refl
 
-  -- within the limits the record has a place for what it adds
+  -- within the limits there is a place for what it adds
   module _ (below : j < N.vertex_count + N.edge_count) (few : N.vertex_count ≤ most_vertices) (few_edges : N.edge_count ≤ most_edges) where
     pub entry_place : (x : Entry) → decode_line N j v ≡ Allowed x → HasPlace N j x
     unfolding decode_line

@@ -11,7 +11,7 @@ use Rattle.net.specs.declared.Net.{Net}
 use Rattle.net.specs.Limits.{most_letters, most_key_nodes, most_signals, letter_base, vertex_base}
 use Rattle.net.proofs.Concrete.{vertex, edge, net}
 use Rattle.sheet.specs.declared.JobLine.TheVariants.{Asked, Refused}
-use Rattle.sheet.specs.Limits.{field_width, line_width, most_bytes_lem}
+use Rattle.sheet.specs.Limits.{field_width, line_width, most_bytes}
 use Rattle.sheet.specs.Field.{read_field}
 use Rattle.sheet.specs.Line.{sheet_line, line_number}
 use Rattle.sheet.specs.Rows.{answer, first_row}
@@ -49,11 +49,11 @@ no_line_end : read_sheet (bytes "   1   4   4   1   1") ≡ refused (answer 11 0
 unfolding open_all
 no_line_end = refl
 
-full_size : size_ok field_width most_bytes_lem ≡ true
+full_size : size_ok field_width most_bytes ≡ true
 unfolding open_all
 full_size = refl
 
-over_size : size_ok field_width (most_bytes_lem + line_width) ≡ false
+over_size : size_ok field_width (most_bytes + line_width) ≡ false
 unfolding open_all
 over_size = refl
 

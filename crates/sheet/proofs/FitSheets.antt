@@ -10,7 +10,7 @@ use Rattle.sheet.specs.declared.Line.{Line}
 use Rattle.sheet.specs.Limits.{line_bytes}
 use Rattle.sheet.specs.Rows.{first_row, NoRow}
 use Rattle.sheet.specs.Rows.NoRow.{end, next}
-use Rattle.sheet.specs.Rules.{header_ok_lem}
+use Rattle.sheet.specs.Rules.{header_ok}
 use Rattle.sheet.specs.Graph.{graph_rows}
 use Rattle.sheet.specs.Reading.{vertex_line_ok, edge_line_ok, size_ok}
 use Rattle.sheet.specs.SheetRows.{line_at, is_missing, numbers_of, in_turn, vertex_count_of, edge_count_of, net_in, vertex_rows, edge_rows, rows_in}
@@ -26,7 +26,7 @@ module _ (w : ℕ) (b : List ℕ) where
   -- none of the rows holds
   pub record Fit : Type 0 where
     pub size : size_ok w (length b) ≡ true
-    pub first : Passing 0 header_ok_lem
+    pub first : Passing 0 header_ok
     pub lines : length b / line_bytes w ≡ 1 + vertex_count_of w b + edge_count_of w b
     pub vertices : (j : ℕ) → j < vertex_count_of w b → Passing (1 + j) (vertex_line_ok (net_in w b) j)
     pub edges : (i : ℕ) → i < edge_count_of w b → Passing (1 + vertex_count_of w b + i) (edge_line_ok (net_in w b))

@@ -15,7 +15,7 @@ use Rattle.sheet.specs.Limits.{line_bytes}
 use Rattle.sheet.specs.Line.{read_line, line_answer}
 use Rattle.sheet.specs.Rows.{answer}
 use Rattle.sheet.specs.Record.{start_net, refused}
-use Rattle.sheet.specs.Rules.{header_ok_lem}
+use Rattle.sheet.specs.Rules.{header_ok}
 use Rattle.sheet.specs.Checked.{SoFar}
 use Rattle.sheet.specs.Reading.{read_lines, whole_lines, size_ok, read_header, read_in}
 use Rattle.sheet.proofs.WholeLines.{whole-first, lines_room}
@@ -46,18 +46,18 @@ module _ (w : ℕ) (b : List ℕ) where
     bad_first_line e = rw (size, unread_of (read_line w (take (line_bytes w) b)) e)
 
     module _ (h : Line) (five : line_answer (read_line w (take (line_bytes w) b)) ≡ Five h) where
-      pub bad_header : header_ok_lem h ≡ false → refused (answer 13 1) ≡ read_in w b
+      pub bad_header : header_ok h ≡ false → refused (answer 13 1) ≡ read_in w b
       unfolding read_in read_header
       bad_header e = rw (size, five_of (read_line w (take (line_bytes w) b)) h five, e)
 
-      module _ (ok : header_ok_lem h ≡ true) where
+      module _ (ok : header_ok h ≡ true) where
         pub header_counts : Counts h.second h.third h.fourth
-        unfolding header_ok_lem
+        unfolding header_ok
         header_counts = counts_facts _ _ _ (search ands)
 
         -- the lines below the header are all there, and none is added yet
         pub start_so_far : SoFar (start_net h.second h.third h.fourth) 0
-        unfolding header_ok_lem
+        unfolding header_ok
         start_so_far = none_yet _ _ _ (search ands)
 
         module _ (width : ℕ) (is : width ≡ line_bytes w) where

@@ -16,7 +16,7 @@ use Rattle.sheet.specs.Rows.{answer, row, when_at, First}
 use Rattle.sheet.specs.Rows.First.{here, later}
 use Rattle.sheet.specs.Record.{accepted}
 use Rattle.sheet.specs.Graph.{graph_rows}
-use Rattle.sheet.specs.Rules.{header_ok_lem}
+use Rattle.sheet.specs.Rules.{header_ok}
 use Rattle.sheet.specs.Reading.{vertex_line_ok, edge_line_ok, size_ok, read_in}
 use Rattle.sheet.specs.SheetRows.{line_at, is_missing, numbers_of, in_turn, header, vertex_count_of, edge_count_of, net_in, vertex_rows, edge_rows, rows_in}
 use Rattle.sheet.specs.Outcome.{Listed, Outcome}
@@ -79,10 +79,10 @@ module _ (w : ℕ) (b : List ℕ) where
   unfolding rows_in
   listed (here e) = subst (Listed 11) (sym (held_at 0 (not (size_ok w (length b))) e)) size
   listed (later _ (here e)) = subst (Listed 12) (sym (held_at 1 (is_missing (line_at w b 0)) e)) (fields 1 (omega arith) (omega arith))
-  listed (later _ (later _ (here e))) = subst (Listed 13) (sym (held_at 1 (not (header_ok_lem (header w b))) e)) header_line_lem
+  listed (later _ (later _ (here e))) = subst (Listed 13) (sym (held_at 1 (not (header_ok (header w b))) e)) header_line_lem
   listed (later _ (later _ (later _ (here e)))) = subst (Listed 14) (sym (held_at 0 (not (eqb (length b / line_bytes w) (1 + vertex_count_of w b + edge_count_of w b))) e)) lines
   listed (later _ (later _ (later ok (later _ rest)))) =
-      body_listed (header_counts (header w b) (not-false (header_ok_lem (header w b)) (not_held 1 (not (header_ok_lem (header w b))) ok))) rest
+      body_listed (header_counts (header w b) (not-false (header_ok (header w b)) (not_held 1 (not (header_ok (header w b))) ok))) rest
 
   pub outcome : Outcome (read_in w b)
   outcome = go (rows-answer (rows_in w b))

@@ -18,7 +18,7 @@ use Rattle.sheet.specs.declared.Reading.{Reading}
 use Rattle.sheet.specs.Limits.{record_columns, line_bytes}
 use Rattle.sheet.specs.Line.{write_line}
 use Rattle.sheet.specs.Record.{accepted}
-use Rattle.sheet.specs.Rules.{header_ok_lem, vertex_ok, edge_ok}
+use Rattle.sheet.specs.Rules.{header_ok, vertex_ok, edge_ok}
 use Rattle.sheet.specs.Reading.{vertex_of, edge_of, vertex_line_ok, edge_line_ok, whole_lines, read_in}
 use Rattle.sheet.specs.Writing.{header_line, vertex_line, edge_line, vertex_lines, edge_lines, write_in}
 use Rattle.sheet.specs.SheetRows.{line_at, is_missing, numbers_of, header, vertex_count_of, edge_count_of, vertex_from, edge_from, net_in}
@@ -37,7 +37,7 @@ use Rattle.sheet.proofs.FitSheets.{Fit, fit}
 -- ---- the record is valid
 
 module _ (w : ℕ) (b : List ℕ) (f : Fit w b) where
-  header_ok_lem : header_ok_lem (header w b) ≡ true
+  header_ok_lem : header_ok (header w b) ≡ true
   header_ok_lem = f.first.allowed
 
   counts : Counts (vertex_count_of w b) (edge_count_of w b) (header w b).fourth
@@ -56,7 +56,7 @@ module _ (w : ℕ) (b : List ℕ) (f : Fit w b) where
       (λ i h. let p = (f.edges i h).allowed in search ands) refl
 
   is_valid : Valid (net_in w b)
-  unfolding net_in header_ok_lem
+  unfolding net_in header_ok
   is_valid =
       let ok = header_ok_lem in
       let vs = vertices_fit in
@@ -75,7 +75,7 @@ module _ (w : ℕ) (b : List ℕ) (f : Fit w b) where
   -- ---- the sheet is the record's
 
   header-same : header_line (net_in w b) ≡ header w b
-  unfolding net_in header_ok_lem
+  unfolding net_in header_ok
   header-same =
       let ok = header_ok_lem in
       let k = eqb-true (header w b).kind 1 (search ands) in

@@ -3,7 +3,7 @@
 use Prim.Native.Nat.{ℕ, ◌≤◌}
 use native.Mathlib.Omega.{arith}
 use mathlib.Core.Path.{◌≡◌, refl, ap, ◌∙◌}
-use mathlib.Core.Logic.{◌↔◌, ◌≢◌}
+use mathlib.Core.Logic.{◌↔◌}
 use mathlib.Core.Bool.{true, cond}
 use mathlib.Core.List.{List}
 use mathlib.Core.Option.{Option}
@@ -12,8 +12,8 @@ use borrow.Author.Tests.{ne_eqb}
 use Rattle.net.specs.declared.Net.{Net}
 use Rattle.sheet.specs.declared.Answer.{Answer}
 use Rattle.sheet.specs.declared.Reading.{Reading}
-use Rattle.sheet.specs.Rows.{Row, answer, first_row, by_rows_lem, answered, First, NoRow}
-use Rattle.sheet.specs.Record.{empty_net, refused, accepted, read_by}
+use Rattle.sheet.specs.Rows.{Row, answer, first_row, by_rows, answered, First, NoRow}
+use Rattle.sheet.specs.Record.{refused, accepted, read_by}
 use Rattle.sheet.proofs.RowLaws.{RowsAnswer, nothing, found, rows-answer, positive, positive-first, by_rows_fit, by_rows-first, by_rows-answer, answered_zero, answered_some}
 
 module _ (rows : List Row) (numbers : positive rows ≡ true) (N : Net) {r : Reading} (by : r ≡ read_by rows N) where
@@ -32,16 +32,9 @@ module _ (rows : List Row) (numbers : positive rows ≡ true) (N : Net) {r : Rea
   pub read_accepted : NoRow rows → r ≡ accepted N
   read_accepted f = by ∙ by_rows_fit rows (accepted N) refused f
 
-  pub read_empty : r.answer.number ≢ 0 → r.net ≡ empty_net
-  read_empty n = go (rows-answer rows)
-    where
-      go : {o : Option Answer} → RowsAnswer rows o → r.net ≡ empty_net
-      go (nothing f) = absurd (n (read_zero.1 f))
-      go (found {n = n} {p = p} f) = ap (λ (x : Reading). x.net) (read_refused n p f)
-
-  pub read_then : {A : Type 0} (good : Net → A) (bad : Answer → A) → cond (eqb r.answer.number 0) (good r.net) (bad r.answer) ≡ by_rows_lem rows (good N) bad
+  pub read_then : {A : Type 0} (good : Net → A) (bad : Answer → A) → cond (eqb r.answer.number 0) (good r.net) (bad r.answer) ≡ by_rows rows (good N) bad
   read_then good bad = go (rows-answer rows)
     where
-      go : {o : Option Answer} → RowsAnswer rows o → cond (eqb r.answer.number 0) (good r.net) (bad r.answer) ≡ by_rows_lem rows (good N) bad
+      go : {o : Option Answer} → RowsAnswer rows o → cond (eqb r.answer.number 0) (good r.net) (bad r.answer) ≡ by_rows rows (good N) bad
       go (nothing f) = rw (read_accepted f, by_rows_fit rows (good N) bad f)
       go (found {n = n} {p = p} f) = rw (read_refused n p f, ne_eqb n 0 (omega (arith, positive-first numbers f)), by_rows-first rows (good N) bad n p f)

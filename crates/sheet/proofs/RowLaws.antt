@@ -10,7 +10,7 @@ use lib.Dec.{leb}
 use borrow.Author.Tests.{leb-true}
 use Rattle.ternary.proofs.Tests.{ands, both}
 use Rattle.sheet.specs.declared.Answer.{Answer}
-use Rattle.sheet.specs.Rows.{answer, Row, row, when_at, when, first_row, by_rows_lem, answered, First, NoRow}
+use Rattle.sheet.specs.Rows.{answer, Row, row, when_at, when, first_row, by_rows, answered, First, NoRow}
 use Rattle.sheet.specs.Rows.First.{here, later}
 use Rattle.sheet.specs.Rows.NoRow.{end, next}
 
@@ -76,64 +76,64 @@ first-append (r ∷ rs) ss (later h f) = go (first-append rs ss f)
 -- ---- what a call gives by its rows
 
 module _ {A : Type 0} (rs : List Row) (x : A) (refuse : Answer → A) where
-  pub by_rows_none : first_row rs ≡ none → by_rows_lem rs x refuse ≡ x
-  unfolding by_rows_lem
-  by_rows_none e = rw (e, by_rows_lem)
+  pub by_rows_none : first_row rs ≡ none → by_rows rs x refuse ≡ x
+  unfolding by_rows
+  by_rows_none e = rw (e, by_rows)
 
-  pub by_rows_some : (a : Answer) → first_row rs ≡ some a → by_rows_lem rs x refuse ≡ refuse a
-  unfolding by_rows_lem
-  by_rows_some a e = rw (e, by_rows_lem)
+  pub by_rows_some : (a : Answer) → first_row rs ≡ some a → by_rows rs x refuse ≡ refuse a
+  unfolding by_rows
+  by_rows_some a e = rw (e, by_rows)
 
   -- the same, by what is declared of the rows
-  pub by_rows_fit : NoRow rs → by_rows_lem rs x refuse ≡ x
+  pub by_rows_fit : NoRow rs → by_rows rs x refuse ≡ x
   by_rows_fit f = by_rows_none ((first_none rs).1 f)
 
-  pub by_rows-first : (n p : ℕ) → First rs n p → by_rows_lem rs x refuse ≡ refuse (answer n p)
+  pub by_rows-first : (n p : ℕ) → First rs n p → by_rows rs x refuse ≡ refuse (answer n p)
   by_rows-first n p f = by_rows_some (answer n p) ((first_some rs n p).1 f)
 
   -- where what is given tells its answer, that is 0 or the first row's
   pub by_rows-answer : (answer_of : A → Answer) → answer_of x ≡ answer 0 0 → ((a : Answer) → answer_of (refuse a) ≡ a)
-      → answer_of (by_rows_lem rs x refuse) ≡ answered (first_row rs)
+      → answer_of (by_rows rs x refuse) ≡ answered (first_row rs)
   by_rows-answer answer_of e f = go (first_row rs) refl
     where
-      go : (o : Option Answer) → first_row rs ≡ o → answer_of (by_rows_lem rs x refuse) ≡ answered o
+      go : (o : Option Answer) → first_row rs ≡ o → answer_of (by_rows rs x refuse) ≡ answered o
       go none h = ap answer_of (by_rows_none h) ∙ e
       go (some a) h = ap answer_of (by_rows_some a h) ∙ f a
 
   -- a row whose condition is that c fails: where it does the call is refused, else the later rows tell what it gives
-  pub by_rows-tested : (c : Bool) (n p : ℕ) {y : A} → (c ≡ true → y ≡ by_rows_lem rs x refuse)
-      → cond c y (refuse (answer n p)) ≡ by_rows_lem (row n (when_at p (not c)) ∷ rs) x refuse
-  unfolding by_rows_lem first_row
+  pub by_rows-tested : (c : Bool) (n p : ℕ) {y : A} → (c ≡ true → y ≡ by_rows rs x refuse)
+      → cond c y (refuse (answer n p)) ≡ by_rows (row n (when_at p (not c)) ∷ rs) x refuse
+  unfolding by_rows first_row
   by_rows-tested true n p e = e refl
   by_rows-tested false n p e = refl
 
   -- what is made of it, by the same rows
-  pub by_rows-map : {B : Type 0} (f : A → B) → f (by_rows_lem rs x refuse) ≡ by_rows_lem rs (f x) (λ a. f (refuse a))
-  unfolding by_rows_lem
+  pub by_rows-map : {B : Type 0} (f : A → B) → f (by_rows rs x refuse) ≡ by_rows rs (f x) (λ a. f (refuse a))
+  unfolding by_rows
   by_rows-map f = go (first_row rs)
     where
       go : (o : Option Answer) → f (elim o as (λ _. A) [ none ↦ x | some a ↦ refuse a ]) ≡ elim o [ none ↦ f x | some a ↦ f (refuse a) ]
       go none = refl
       go (some a) = refl
 
-  passed-row : (r : Row) → r.place ≡ none → by_rows_lem (r ∷ rs) x refuse ≡ by_rows_lem rs x refuse
-  unfolding by_rows_lem first_row
+  passed-row : (r : Row) → r.place ≡ none → by_rows (r ∷ rs) x refuse ≡ by_rows rs x refuse
+  unfolding by_rows first_row
   passed-row r h = rw h
 
-  refusing_row : (r : Row) (p : ℕ) → r.place ≡ some p → by_rows_lem (r ∷ rs) x refuse ≡ refuse (answer r.number p)
-  unfolding by_rows_lem first_row
+  refusing_row : (r : Row) (p : ℕ) → r.place ≡ some p → by_rows (r ∷ rs) x refuse ≡ refuse (answer r.number p)
+  unfolding by_rows first_row
   refusing_row r p h = rw h
 
 -- rows after others are those of what the others let through
-pub by_rows-append : {A : Type 0} (rs ss : List Row) (x : A) (refuse : Answer → A) → by_rows_lem (rs ++ ss) x refuse ≡ by_rows_lem rs (by_rows_lem ss x refuse) refuse
-unfolding by_rows_lem first_row
+pub by_rows-append : {A : Type 0} (rs ss : List Row) (x : A) (refuse : Answer → A) → by_rows (rs ++ ss) x refuse ≡ by_rows rs (by_rows ss x refuse) refuse
+unfolding by_rows first_row
 by_rows-append [] ss x refuse = refl
 by_rows-append (r ∷ rs) ss x refuse = go (by_rows-append rs ss x refuse) r.place refl
   where
-    go : by_rows_lem (rs ++ ss) x refuse ≡ by_rows_lem rs (by_rows_lem ss x refuse) refuse
-        → (o : Option ℕ) → r.place ≡ o → by_rows_lem (r ∷ (rs ++ ss)) x refuse ≡ by_rows_lem (r ∷ rs) (by_rows_lem ss x refuse) refuse
-    go e none h = passed-row (rs ++ ss) x refuse r h ∙ e ∙ sym (passed-row rs (by_rows_lem ss x refuse) refuse r h)
-    go e (some p) h = refusing_row (rs ++ ss) x refuse r p h ∙ sym (refusing_row rs (by_rows_lem ss x refuse) refuse r p h)
+    go : by_rows (rs ++ ss) x refuse ≡ by_rows rs (by_rows ss x refuse) refuse
+        → (o : Option ℕ) → r.place ≡ o → by_rows (r ∷ (rs ++ ss)) x refuse ≡ by_rows (r ∷ rs) (by_rows ss x refuse) refuse
+    go e none h = passed-row (rs ++ ss) x refuse r h ∙ e ∙ sym (passed-row rs (by_rows ss x refuse) refuse r h)
+    go e (some p) h = refusing_row (rs ++ ss) x refuse r p h ∙ sym (refusing_row rs (by_rows ss x refuse) refuse r p h)
 
 -- ---- what a call answers with: number 0 stands for no row, if no row has it
 

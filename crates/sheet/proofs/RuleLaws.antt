@@ -15,7 +15,7 @@ use Rattle.net.specs.Known.{known_symbol, known_label}
 use Rattle.net.proofs.Values.{within_low, within-high, decode_by}
 use Rattle.ternary.proofs.Tests.{ands, cond_by}
 use Rattle.sheet.specs.declared.Line.{Line}
-use Rattle.sheet.specs.Rules.{counts_ok, header_ok_lem, vertex_ok, symbol_ok, edge_ok}
+use Rattle.sheet.specs.Rules.{counts_ok, header_ok, vertex_ok, symbol_ok, edge_ok}
 use Rattle.sheet.specs.Valid.{is_no_vertex, is_no_edge}
 
 pub record Counts (v e l : ℕ) : Type 0 where
@@ -34,8 +34,8 @@ counts_facts v e l h =
       letters = leb-true l most_letters (search ands);
     }
 
-pub header_counts : (h : Line) → header_ok_lem h ≡ true → Counts h.second h.third h.fourth
-unfolding header_ok_lem
+pub header_counts : (h : Line) → header_ok h ≡ true → Counts h.second h.third h.fourth
+unfolding header_ok
 header_counts h ok = counts_facts h.second h.third h.fourth (search ands)
 
 -- ---- known symbols and labels are below the bound of symbols

@@ -1,27 +1,22 @@
 -- The rules as code tests them, one test after the other.
-use Prim.Native.Nat.{ℕ, zero, suc, ◌+◌, ◌-◌, ◌≤◌, ◌<◌}
+use Prim.Native.Nat.{ℕ, zero, suc, ◌-◌, ◌≤◌, ◌<◌}
 use native.Mathlib.Omega.{arith}
-use mathlib.Core.Path.{◌≡◌, refl, sym, ap, ◌∙◌}
+use mathlib.Core.Path.{◌≡◌, refl, sym}
 use mathlib.Core.Bool.{Bool, true, false, not, ◌&&◌, ◌||◌, and-true, and_false}
 use lib.Dec.{leb, eqb}
-use lib.ListN.{get_or, replicate, get_or-replicate}
+use lib.ListN.{length, get_or, get_or-eq_default}
 use borrow.Author.Tests.{eq-eqb, ne_eqb, le-leb, lt-leb}
 use Rattle.net.specs.declared.Vertex.{Vertex}
 use Rattle.net.specs.declared.Edge.{Edge}
 use Rattle.net.specs.declared.Net.{Net}
 use Rattle.net.specs.declared.Symbol.{Symbol}
-use Rattle.net.specs.Limits.{most_vertices, most_edges, vertex_base}
+use Rattle.net.specs.Limits.{most_vertices}
 use Rattle.net.specs.Symbols.{within, decode, is_variable}
-use Rattle.net.specs.Graph.{no_vertex, no_edge, vertex_at, has_role, is_storage}
+use Rattle.net.specs.Graph.{no_vertex, vertex_at, has_role, is_storage}
 use Rattle.net.specs.Known.{known_symbol, known_label}
-use Rattle.net.specs.Tables.{vertex_of}
-use Rattle.net.proofs.Values.{decode_by}
-use Rattle.net.proofs.Cases.{decode-vertex}
-use Rattle.net.proofs.KeyFlags.{vertex_of_range}
 use Rattle.sheet.specs.declared.Form.{Form}
 use Rattle.sheet.specs.declared.Form.TheVariants.{Plain, Primed, Unknown}
 use Rattle.sheet.specs.Rules.{vertex_ok, primed, symbol_ok, edge_ok, form_of}
-use Rattle.sheet.specs.Fitting.{Shows}
 
 -- ---- forms
 
@@ -47,54 +42,22 @@ form_unknown (suc (suc zero)) h = absurd (omega arith)
 form_unknown (suc (suc (suc zero))) h = absurd (omega arith)
 form_unknown (suc (suc (suc (suc f)))) h = refl
 
--- ---- the place of the vertex that a symbol names
+-- ---- storage vertices, in any record with all its places
 
-pub named_none : (s : ℕ) → (vertex_base < s → s ≤ vertex_base + most_vertices → ⊥) → 0 ≡ vertex_of (decode s) - 1
-named_none s f = decode_by (λ x. 0 ≡ vertex_of x - 1) s (λ _. refl) (λ _ _. refl) (λ low high. absurd (f low high)) refl
-
-pub named_vertex : (s : ℕ) → vertex_base < s → s ≤ vertex_base + most_vertices → s - suc vertex_base ≡ vertex_of (decode s) - 1
-named_vertex s low high =
-    let one_less : s - suc vertex_base ≡ s - vertex_base - 1 = omega arith in
-    one_less ∙ ap (λ (x : Symbol). vertex_of x - 1) (decode-vertex s low high)
-
-pub named_role : (N : Net) (s at : ℕ) → at ≡ vertex_of (decode s) - 1 → (get_or N.vertices at no_vertex).role ≡ (vertex_at N (vertex_of (decode s))).role
-unfolding vertex_at
-named_role N s at is = rw is
-
--- ---- some net shows any counts and any role, so what holds for every net that shows them is not said of nothing
-
-abbrev pub showing : ℕ → ℕ → ℕ → Net
-showing vertices letters role =
-    record {
-      vertices = replicate most_vertices (record { role = role; label = 0 });
-      edges = replicate most_edges no_edge;
-      vertex_count = vertices;
-      edge_count = 0;
-      letter_count = letters;
-    }
-
-pub shown : (vertices letters role s : ℕ) → Shows (showing vertices letters role) vertices letters role (decode s)
-unfolding vertex_at
-shown vertices letters role s =
-    record {
-      vertex_count = refl;
-      letter_count = refl;
-      named_role =
-          ap (λ (x : Vertex). x.role)
-          (sym (get_or-replicate most_vertices (vertex_of (decode s) - 1) (record { role = role; label = 0 }) no_vertex (omega (arith, vertex_of_range s))));
-    }
-
--- ---- storage vertices
-
-module _ (N : Net) (v vertices : ℕ) (count : vertices ≡ N.vertex_count) where
-  pub storage_outside : within 1 vertices v ≡ false → false ≡ is_storage N v
+module _ (N : Net) (v : ℕ) where
+  pub storage_outside : within 1 N.vertex_count v ≡ false → false ≡ is_storage N v
   unfolding is_storage has_role
-  storage_outside h = rw (← count, h)
+  storage_outside h = rw h
 
-  module _ (here : within 1 vertices v ≡ true) (r : ℕ) (is : r ≡ (vertex_at N v).role) where
+  pub storage_beyond : length N.vertices ≡ most_vertices → most_vertices ≤ v - 1 → false ≡ is_storage N v
+  unfolding is_storage has_role vertex_at
+  storage_beyond size h =
+      rw (get_or-eq_default N.vertices no_vertex {n = v - 1} (omega arith), and_false)
+
+  module _ (here : within 1 N.vertex_count v ≡ true) (r : ℕ) (is : r ≡ (get_or N.vertices (v - 1) no_vertex).role) where
     pub storage_role : 1 ≤ r → r < 3 → true ≡ is_storage N v
     unfolding is_storage has_role vertex_at
-    storage_role h k = rw (← count, here, ← is) (go r h k)
+    storage_role h k = rw (here, ← is) (go r h k)
       where
         go : (r : ℕ) → 1 ≤ r → r < 3 → true ≡ (eqb r 1 || eqb r 2)
         go zero h k = absurd (omega arith)
@@ -104,7 +67,7 @@ module _ (N : Net) (v vertices : ℕ) (count : vertices ≡ N.vertex_count) wher
 
     pub other_role : (r ≡ 1 → ⊥) → (r ≡ 2 → ⊥) → false ≡ is_storage N v
     unfolding is_storage has_role vertex_at
-    other_role f g = rw (← count, here, ← is, ne_eqb r 1 f, ne_eqb r 2 g)
+    other_role f g = rw (here, ← is, ne_eqb r 1 f, ne_eqb r 2 g)
 
 -- ---- the symbol of an edge, by its form
 
@@ -157,21 +120,21 @@ module _ (N : Net) (x : Vertex) where
   unfolding vertex_ok
   unknown_role h = rw (ne_eqb x.role 0 (λ e. omega arith), lt-leb x.role 2 h)
 
-module _ (N : Net) (e : Edge) (vertices : ℕ) (count : vertices ≡ N.vertex_count) where
-  pub no_end1 : within 1 vertices e.end1 ≡ false → false ≡ edge_ok N e
+module _ (N : Net) (e : Edge) where
+  pub no_end1 : within 1 N.vertex_count e.end1 ≡ false → false ≡ edge_ok N e
   unfolding edge_ok
-  no_end1 h = rw (← count, h)
+  no_end1 h = rw h
 
-  module _ (one : within 1 vertices e.end1 ≡ true) where
-    pub no_end2 : within 1 vertices e.end2 ≡ false → false ≡ edge_ok N e
+  module _ (one : within 1 N.vertex_count e.end1 ≡ true) where
+    pub no_end2 : within 1 N.vertex_count e.end2 ≡ false → false ≡ edge_ok N e
     unfolding edge_ok
-    no_end2 h = rw (← count, one, h)
+    no_end2 h = rw (one, h)
 
-    module _ (two : within 1 vertices e.end2 ≡ true) where
+    module _ (two : within 1 N.vertex_count e.end2 ≡ true) where
       pub same_ends : e.end1 ≡ e.end2 → false ≡ edge_ok N e
       unfolding edge_ok
-      same_ends h = rw (← count, one, two, eq-eqb e.end1 e.end2 h)
+      same_ends h = rw (one, two, eq-eqb e.end1 e.end2 h)
 
       pub two_ends : (e.end1 ≡ e.end2 → ⊥) → (leb e.form 3 && symbol_ok N e) ≡ edge_ok N e
       unfolding edge_ok
-      two_ends f = rw (← count, one, two, ne_eqb e.end1 e.end2 f)
+      two_ends f = rw (one, two, ne_eqb e.end1 e.end2 f)

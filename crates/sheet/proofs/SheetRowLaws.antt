@@ -19,9 +19,9 @@ use Rattle.sheet.specs.declared.Answer.{Answer}
 use Rattle.sheet.specs.declared.Line.{Line}
 use Rattle.sheet.specs.Limits.{line_bytes}
 use Rattle.sheet.specs.Line.{read_line}
-use Rattle.sheet.specs.Rows.{answer, Row, row, when, when_at, first_row, by_rows_lem, First, NoRow}
+use Rattle.sheet.specs.Rows.{answer, Row, row, when, when_at, first_row, by_rows, First, NoRow}
 use Rattle.sheet.specs.Record.{start_net, refused, accepted, read_by}
-use Rattle.sheet.specs.Rules.{header_ok_lem, vertex_ok, symbol_ok, edge_ok}
+use Rattle.sheet.specs.Rules.{header_ok, vertex_ok, symbol_ok, edge_ok}
 use Rattle.sheet.specs.Graph.{graph_rows}
 use Rattle.sheet.specs.Reading.{vertex_of, edge_of, with_vertices, with_edges, vertex_line_ok, edge_line_ok, add_line, step_line, conclude, read_lines, size_ok, read_header, read_in}
 use Rattle.sheet.specs.Reading.Step.{next, stop}
@@ -44,7 +44,7 @@ module _ (w left : ℕ) (rest : List ℕ) (j p n : ℕ) (line-number : p ≡ j +
   line-by_rows : (o : Option Line) → (allowed (numbers_of o) ≡ true → read_lines w left rest (suc j) (added (numbers_of o)) ≡ read_by rs N₁)
       → after_step w left rest j (step_line o j N)
       ≡ read_by (row 12 (when_at p (is_missing o)) ∷ row n (when_at p (not (allowed (numbers_of o)))) ∷ rs) N₁
-  unfolding step_line by_rows_lem first_row
+  unfolding step_line by_rows first_row
   line-by_rows none after = rw line-number
   line-by_rows (some v) after =
       ap (after_step w left rest j) (adds v) ∙ after_test (allowed v) (added v) ∙ by_rows-tested rs (accepted N₁) refused (allowed v) n p after
@@ -85,7 +85,7 @@ module _ (w : ℕ) (b : List ℕ) where
   module _ (counts : Counts (vertex_count_of w b) (edge_count_of w b) (header w b).fourth) where
     edges_by_rows : (m k : ℕ) → k + m ≡ edge_count_of w b
         → read_lines w m (drop (line_bytes w * (1 + vertex_count_of w b + k)) b) (vertex_count_of w b + k) (with_edge k) ≡ read_by (in_turn m k (edge_rows w b) ++ graph_rows (net_in w b)) (net_in w b)
-    unfolding read_lines in_turn by_rows_lem net_in edge_rows
+    unfolding read_lines in_turn by_rows net_in edge_rows
     edges_by_rows zero k h =
         let all : k ≡ edge_count_of w b = omega arith in
         ap (λ (n : ℕ). conclude (with_edge n) (first_row (graph_rows (with_edge n)))) all ∙ concluded (net_in w b) (first_row (graph_rows (net_in w b)))
@@ -101,7 +101,7 @@ module _ (w : ℕ) (b : List ℕ) where
     vertices_by_rows : (m k : ℕ) → k + m ≡ vertex_count_of w b
         → read_lines w (m + edge_count_of w b) (drop (line_bytes w * (1 + k)) b) k (with_vertex k)
         ≡ read_by (in_turn m k (vertex_rows w b) ++ (in_turn (edge_count_of w b) 0 (edge_rows w b) ++ graph_rows (net_in w b))) (net_in w b)
-    unfolding in_turn by_rows_lem net_in vertex_rows
+    unfolding in_turn by_rows net_in vertex_rows
     vertices_by_rows zero k h =
         let all : k ≡ vertex_count_of w b = omega arith in
         ap (λ (n : ℕ). read_lines w (0 + edge_count_of w b) (drop (line_bytes w * (1 + n)) b) n (with_vertex n)) all
@@ -124,15 +124,15 @@ module _ (w : ℕ) (b : List ℕ) (rs : List Row) (N : Net) where
   counted h = row 14 (when (not (eqb (length b / line_bytes w) (1 + h.second + h.third)))) ∷ rs
 
   header-by_rows : (o : Option Line)
-      → (header_ok_lem (numbers_of o) ≡ true
+      → (header_ok (numbers_of o) ≡ true
       → read_lines w ((numbers_of o).second + (numbers_of o).third) (drop (line_bytes w) b) 0 (start_net (numbers_of o).second (numbers_of o).third (numbers_of o).fourth)
       ≡ read_by rs N)
       → read_header w b o
-      ≡ read_by (row 12 (when_at 1 (is_missing o)) ∷ row 13 (when_at 1 (not (header_ok_lem (numbers_of o)))) ∷ counted (numbers_of o)) N
-  unfolding read_header by_rows_lem first_row
+      ≡ read_by (row 12 (when_at 1 (is_missing o)) ∷ row 13 (when_at 1 (not (header_ok (numbers_of o)))) ∷ counted (numbers_of o)) N
+  unfolding read_header by_rows first_row
   header-by_rows none after = refl
   header-by_rows (some h) after =
-      by_rows-tested (counted h) (accepted N) refused (header_ok_lem h) 13 1
+      by_rows-tested (counted h) (accepted N) refused (header_ok h) 13 1
       (λ ok. by_rows-tested rs (accepted N) refused (eqb (length b / line_bytes w) (1 + h.second + h.third)) 14 0 (λ _. after ok))
 
 -- before the first line below the header nothing is in use
@@ -146,17 +146,17 @@ module _ (w : ℕ) (b : List ℕ) where
   abbrev body : List Row
   body = in_turn (vertex_count_of w b) 0 (vertex_rows w b) ++ (in_turn (edge_count_of w b) 0 (edge_rows w b) ++ graph_rows (net_in w b))
 
-  body-by_rows : header_ok_lem (header w b) ≡ true
+  body-by_rows : header_ok (header w b) ≡ true
       → read_lines w (vertex_count_of w b + edge_count_of w b) (drop (line_bytes w) b) 0 (start_net (vertex_count_of w b) (edge_count_of w b) (header w b).fourth) ≡ read_by body (net_in w b)
   body-by_rows ok =
       ap (read_lines w (vertex_count_of w b + edge_count_of w b) (drop (line_bytes w) b) 0) (start_unused w b)
       ∙ ap (λ (n : ℕ). read_lines w (vertex_count_of w b + edge_count_of w b) (drop n b) 0 (with_vertex w b 0)) (sym (mul-one (line_bytes w)))
       ∙ vertices_by_rows w b (header_counts (header w b) ok) (vertex_count_of w b) 0 (zero-add (vertex_count_of w b))
 
-  pub read_by-rows : read_in w b ≡ by_rows_lem (rows_in w b) (accepted (net_in w b)) refused
+  pub read_by-rows : read_in w b ≡ by_rows (rows_in w b) (accepted (net_in w b)) refused
   unfolding read_in rows_in line_at
   read_by-rows =
-      by_rows-tested (row 12 (when_at 1 (is_missing (line_at w b 0))) ∷ row 13 (when_at 1 (not (header_ok_lem (header w b)))) ∷ counted w b body (net_in w b) (header w b))
+      by_rows-tested (row 12 (when_at 1 (is_missing (line_at w b 0))) ∷ row 13 (when_at 1 (not (header_ok (header w b)))) ∷ counted w b body (net_in w b) (header w b))
       (accepted (net_in w b)) refused (size_ok w (length b)) 11 0
       (λ _. ap (λ (n : ℕ). read_header w b (read_line w (take (line_bytes w) (drop n b)))) (sym (mul-zero (line_bytes w)))
       ∙ header-by_rows w b body (net_in w b) (line_at w b 0) body-by_rows)
@@ -184,5 +184,5 @@ module _ (w : ℕ) (b : List ℕ) where
 
   -- what a call that reads a sheet first gives: by the sheet's rows, and where none holds by the net
   pub sheet_then : {A : Type 0} (good : Net → A) (bad : Answer → A)
-      → cond (eqb (read_in w b).answer.number 0) (good (read_in w b).net) (bad (read_in w b).answer) ≡ by_rows_lem (rows_in w b) (good (net_in w b)) bad
+      → cond (eqb (read_in w b).answer.number 0) (good (read_in w b).net) (bad (read_in w b).answer) ≡ by_rows (rows_in w b) (good (net_in w b)) bad
   sheet_then = read_then (rows_in w b) sheet_positive (net_in w b) read_by-rows

@@ -10,7 +10,7 @@ use Rattle.sheet.specs.Field.{column, write_field, field_value, read_field}
 use Rattle.sheet.specs.Line.{write_line, field_at, five_fields, read_line, has_line, line_in, line_number_in}
 use Rattle.sheet.specs.Rows.{first_row}
 use Rattle.sheet.specs.Record.{start_net, empty_net}
-use Rattle.sheet.specs.Rules.{counts_ok, header_ok_lem, vertex_ok, symbol_ok, edge_ok}
+use Rattle.sheet.specs.Rules.{counts_ok, header_ok, vertex_ok, symbol_ok, edge_ok}
 use Rattle.sheet.specs.Pairs.{is_between, edges_between, exceeds, lacks_partner}
 use Rattle.sheet.specs.Graph.{partner_place, key_place, over_signals, signal_place, graph_rows}
 use Rattle.sheet.specs.Reading.{vertex_line_ok, edge_line_ok, add_line, step_line, conclude, read_lines, whole_lines, read_header, read_in}
@@ -23,7 +23,7 @@ use Rattle.sheet.specs.Text.{bytes}
 unfoldable pub open_all : Unit {0}
 unfolding
     model net signal_count same column write_field field_value read_field write_line field_at five_fields read_line has_line line_in line_number_in
-    first_row start_net empty_net counts_ok header_ok_lem vertex_ok symbol_ok edge_ok is_between edges_between exceeds lacks_partner partner_place key_place over_signals
+    first_row start_net empty_net counts_ok header_ok vertex_ok symbol_ok edge_ok is_between edges_between exceeds lacks_partner partner_place key_place over_signals
     signal_place graph_rows vertex_line_ok edge_line_ok add_line step_line conclude read_lines whole_lines read_header read_in vertex_lines edge_lines
     write_in all_of is_no_vertex is_no_edge passes valid job_in
 open_all = tt

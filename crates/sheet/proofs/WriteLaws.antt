@@ -20,7 +20,7 @@ use Rattle.sheet.specs.declared.Line.{Line}
 use Rattle.sheet.specs.Line.{read_line, write_line}
 use Rattle.sheet.specs.Rows.{first_row}
 use Rattle.sheet.specs.Record.{start_net, accepted}
-use Rattle.sheet.specs.Rules.{header_ok_lem, vertex_ok, symbol_ok, edge_ok}
+use Rattle.sheet.specs.Rules.{header_ok, vertex_ok, symbol_ok, edge_ok}
 use Rattle.sheet.specs.Graph.{graph_rows}
 use Rattle.sheet.specs.Reading.{with_vertices, with_edges, vertex_line_ok, edge_line_ok, add_line, step_line, conclude, read_lines, whole_lines, size_ok, read_header, read_in}
 use Rattle.sheet.specs.Reading.Step.{next}
@@ -134,7 +134,7 @@ size_passed w n k e h =
     let most : line_bytes w * (1 + k) ≤ sheet_bytes w = mul-le-mul_left (line_bytes w) h in
     rw (le-leb 1 n (omega (arith, e, first)), eq-eqb (n % line_bytes w) 0 (lines_fill (line_bytes w) n (1 + k) (omega arith) e), le-leb n (sheet_bytes w) (rw e most))
 
-header_read : (w : ℕ) (b : List ℕ) (h : Line) → size_ok w (length b) ≡ true → read_line w (take (line_bytes w) b) ≡ some h → header_ok_lem h ≡ true
+header_read : (w : ℕ) (b : List ℕ) (h : Line) → size_ok w (length b) ≡ true → read_line w (take (line_bytes w) b) ≡ some h → header_ok h ≡ true
     → length b / line_bytes w ≡ 1 + h.second + h.third
     → read_in w b ≡ read_lines w (h.second + h.third) (drop (line_bytes w) b) 0 (start_net h.second h.third h.fourth)
 unfolding read_in read_header
@@ -153,7 +153,7 @@ length_sheet w N f =
 
 -- in fewer columns than `record_columns` a symbol would lose its first digit
 pub read_write_sheet : (w : ℕ) → record_columns ≤ w → (N : Net) → valid N ≡ true → read_in w (write_in w N) ≡ accepted N
-unfolding write_in header_ok_lem
+unfolding write_in header_ok
 read_write_sheet w wide N ok =
     let f = (valid_iff N).0 ok in
     let c = counts_of N f in

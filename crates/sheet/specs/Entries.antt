@@ -1,6 +1,7 @@
 -- For the code alone: a line below the header is decoded, without the record, to what it adds; the record with it is a second step.
-use Rattle.std.specs.Prelude.{ℕ, ◌-◌, cond, ltb, set}
+use Rattle.std.specs.Prelude.{ℕ, ◌-◌, ◌≤◌, ◌<◌, cond, ltb, set}
 use Rattle.net.specs.declared.Net.{Net}
+use Rattle.net.specs.Limits.{most_vertices, most_edges}
 use Rattle.sheet.specs.declared.Line.{Line}
 use Rattle.sheet.specs.declared.Entry.{Entry}
 use Rattle.sheet.specs.declared.Entry.TheVariants.{Vertex, Edge}
@@ -31,3 +32,8 @@ with_entry N j (Edge e) = with_edges N (set N.edges (j - N.vertex_count) e)
 abbrev pub step_of : Net → ℕ → Decoded → Step
 step_of N j (Allowed x) = next (with_entry N j x)
 step_of N j (Refused n) = stop n
+
+-- the record has a place for what line j adds
+abbrev pub HasPlace : Net → ℕ → Entry → Type 0
+HasPlace N j (Vertex x) = j < most_vertices
+HasPlace N j (Edge e) = (N.vertex_count ≤ j) × (j - N.vertex_count < most_edges)

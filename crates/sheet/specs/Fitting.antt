@@ -1,9 +1,7 @@
 -- How the code tests the places of a record: one in use has values that are allowed, an unused one is zero. `valid` asks this of each list in two parts.
-use Rattle.std.specs.Prelude.{ℕ, Bool, cond, List, ◌≡◌, ltb, get_or}
+use Rattle.std.specs.Prelude.{ℕ, Bool, cond, List, ltb, get_or}
 use Rattle.net.specs.declared.Net.{Net}
-use Rattle.net.specs.declared.Symbol.{Symbol}
-use Rattle.net.specs.Graph.{no_vertex, no_edge, vertex_at}
-use Rattle.net.specs.Tables.{vertex_of}
+use Rattle.net.specs.Graph.{no_vertex, no_edge}
 use Rattle.sheet.specs.Rules.{vertex_ok, edge_ok}
 use Rattle.sheet.specs.Valid.{is_no_vertex, is_no_edge}
 
@@ -16,10 +14,3 @@ vertex_fits N i = fits (vertex_ok N) is_no_vertex N.vertex_count N.vertices no_v
 
 unfoldable pub edge_fits : Net → ℕ → Bool
 edge_fits N i = fits (edge_ok N) is_no_edge N.edge_count N.edges no_edge i
-
--- What the code is told of a net N to test an edge with the symbol s: how many vertices and letters there are, and the role of the vertex that s names. Where
--- s names none the role is not used.
-pub record Shows (N : Net) (vertices letters role : ℕ) (s : Symbol) : Type 0 where
-  pub vertex_count : vertices ≡ N.vertex_count
-  pub letter_count : letters ≡ N.letter_count
-  pub named_role : role ≡ (vertex_at N (vertex_of s)).role

@@ -42,8 +42,8 @@ most_lines = 1 + most_vertices + most_edges
 abbrev pub sheet_bytes : Columns → ℕ
 sheet_bytes w = line_bytes w * most_lines
 
-abbrev pub most_bytes_lem : ℕ
-most_bytes_lem = sheet_bytes field_width
+abbrev pub most_bytes : ℕ
+most_bytes = sheet_bytes field_width
 
 -- bytes: a blank, the digit 0 (the others follow it), the end of a line
 abbrev pub blank : ℕ
@@ -67,7 +67,7 @@ widths =
       columns = most_columns;
       line = line_width;
       lines = most_lines;
-      sheet = most_bytes_lem;
+      sheet = most_bytes;
       blank = blank;
       digit_zero = digit_zero;
       line_end = line_end;

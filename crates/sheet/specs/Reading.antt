@@ -12,7 +12,7 @@ use Rattle.sheet.specs.declared.Line.{Line}
 use Rattle.sheet.specs.Line.{read_line}
 use Rattle.sheet.specs.Rows.{answer, first_row}
 use Rattle.sheet.specs.Record.{start_net, refused, accepted}
-use Rattle.sheet.specs.Rules.{header_ok_lem, vertex_ok, edge_ok}
+use Rattle.sheet.specs.Rules.{header_ok, vertex_ok, edge_ok}
 use Rattle.sheet.specs.Graph.{graph_rows}
 
 -- Lines below the header are counted j = 0, 1, ..; line j has line number j + 2.
@@ -93,7 +93,7 @@ unfoldable pub read_header : Columns → Bytes → Option Line → Reading
 read_header w b none = refused (answer 12 1)
 read_header w b (some h) =
     cond
-    (header_ok_lem h)
+    (header_ok h)
     (cond
     (eqb (length b / line_bytes w) (1 + h.second + h.third))
     (read_lines w (h.second + h.third) (drop (line_bytes w) b) 0 (start_net h.second h.third h.fourth))

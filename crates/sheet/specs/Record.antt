@@ -5,7 +5,7 @@ use Rattle.net.specs.Graph.{no_vertex, no_edge}
 use Rattle.net.specs.declared.Net.{Net}
 use Rattle.sheet.specs.declared.Answer.{Answer}
 use Rattle.sheet.specs.declared.Reading.{Reading}
-use Rattle.sheet.specs.Rows.{Row, answer, by_rows_lem}
+use Rattle.sheet.specs.Rows.{Row, answer, by_rows}
 
 -- the record of a header before any vertex or edge is read
 unfoldable pub start_net : ℕ → ℕ → ℕ → Net
@@ -29,4 +29,4 @@ accepted N = record { answer = answer 0 0; net = N }
 
 -- what a call that reads a net gives by its rows: the record N where none holds, else the refusal of the first
 abbrev pub read_by : List Row → Net → Reading
-read_by rows N = by_rows_lem rows (accepted N) refused
+read_by rows N = by_rows rows (accepted N) refused

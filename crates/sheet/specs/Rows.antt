@@ -27,8 +27,8 @@ first_row [] = none
 first_row (r ∷ rs) = elim r.place [ none ↦ first_row rs | some p ↦ some (answer r.number p) ]
 
 -- what a call gives by its rows: x where no row's condition holds, else a refusal with the first one's answer
-unfoldable pub by_rows_lem : {A : Type 0} → List Row → A → (Answer → A) → A
-by_rows_lem rows x refuse = elim (first_row rows) [ none ↦ x | some a ↦ refuse a ]
+unfoldable pub by_rows : {A : Type 0} → List Row → A → (Answer → A) → A
+by_rows rows x refuse = elim (first_row rows) [ none ↦ x | some a ↦ refuse a ]
 
 -- answer 0 where no row's condition holds
 abbrev pub answered : Option Answer → Answer

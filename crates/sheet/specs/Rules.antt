@@ -16,8 +16,8 @@ unfoldable pub counts_ok : ℕ → ℕ → ℕ → Bool
 counts_ok v e l = within 1 most_vertices v && leb e most_edges && leb l most_letters
 
 -- header: 1, vertices, edges, letters, the edition
-unfoldable pub header_ok_lem : Line → Bool
-header_ok_lem h = eqb h.kind 1 && eqb h.fifth edition && counts_ok h.second h.third h.fourth
+unfoldable pub header_ok : Line → Bool
+header_ok h = eqb h.kind 1 && eqb h.fifth edition && counts_ok h.second h.third h.fourth
 
 -- role 0, an input vertex: its label is 0, 1 or a letter's symbol; roles 1 and 2, a storage vertex: label 0
 unfoldable pub vertex_ok : Net → Vertex → Bool

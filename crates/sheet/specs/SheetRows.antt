@@ -12,7 +12,7 @@ use Rattle.sheet.specs.declared.Line.{Line}
 use Rattle.sheet.specs.Limits.{Columns, field_width, line_bytes}
 use Rattle.sheet.specs.Line.{line, read_line}
 use Rattle.sheet.specs.Rows.{Row, row, when, when_at}
-use Rattle.sheet.specs.Rules.{header_ok_lem}
+use Rattle.sheet.specs.Rules.{header_ok}
 use Rattle.sheet.specs.Graph.{graph_rows}
 use Rattle.sheet.specs.Reading.{vertex_of, edge_of, vertex_line_ok, edge_line_ok, size_ok}
 
@@ -93,7 +93,7 @@ module _ (w : Columns) (b : Bytes) where
   rows_in =
       row 11 (when (not (size_ok w (length b))))
       ∷ fields_row 0
-      ∷ row 13 (when_at 1 (not (header_ok_lem header)))
+      ∷ row 13 (when_at 1 (not (header_ok header)))
       ∷ row 14 (when (not (eqb (length b / line_bytes w) (1 + vertex_count_of + edge_count_of))))
       ∷ (in_turn vertex_count_of 0 vertex_rows ++ (in_turn edge_count_of 0 edge_rows ++ graph_rows net_in))
 

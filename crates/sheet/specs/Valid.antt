@@ -1,5 +1,4 @@
--- A net is valid if some accepted sheet gives it (`valid_iff_accepted`). Calls are handed a record, which is a net with its tables: the test for 41 is
--- `is_record`, in the crate `records`, and asks this first.
+-- A record is valid if some accepted sheet gives it (`valid_iff_accepted`); a call that is handed another refuses with 41.
 use Rattle.std.specs.Prelude.{Bool, true, false, ◌&&◌, List, [], ◌∷◌, eqb, length, take, drop}
 use Rattle.std.proofs.Math.Option.{Option, none, some}
 use Rattle.net.specs.Limits.{most_vertices, most_edges}

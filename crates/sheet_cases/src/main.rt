@@ -7,9 +7,7 @@ ghost use Rattle.sheet.specs.Limits.{ReadColumns};
 
 use cases::{Case, Input, data_of, next_case, number_at, number_text};
 use libc::{STDIN_FILENO, STDOUT_FILENO};
-use net::Net;
-use records::Recorded;
-use sheet::{JobLine, Sheet};
+use sheet::{JobLine, Reading, Sheet};
 
 // The buffer that a field is written to, and what it holds before.
 const FIELD_BUFFER: usize = 12;
@@ -53,23 +51,11 @@ fn print_field(n: u64, columns: usize) {
 }
 
 // A sheet: number, place, and whether the record is one.
-fn print_reading(reading: Recorded) {
-    let answer = reading.answer;
-    print_column(answer.number as u64);
-    print_column(answer.place as u64);
-    print_column(if records_test::is_record(reading.kept) {
-        1
-    } else {
-        0
-    });
-}
-
-// A sheet with so many columns a field.
-fn print_reading_in(sheet: &[u8], columns: usize)
-    requires { ReadColumns columns }
-{
-    let mut excitations = [0u8; Net::VERTEX_LANES];
-    print_reading(records_reader::read_in(sheet, columns, &mut excitations));
+fn print_reading(reading: Reading) {
+    let net = reading.net;
+    print_column(reading.answer.number as u64);
+    print_column(reading.answer.place as u64);
+    print_column(if record::is_record(net) { 1 } else { 0 });
 }
 
 // Bytes that are handed back: how many, and these.
@@ -142,8 +128,8 @@ fn print_answer(cases: &[u8], at: usize)
     let bytes = data_of(cases, at);
     match cases[at] {
         b'#' => print_note(bytes),
-        b'S' => print_reading(records_reader::read(bytes)),
-        b's' => print_reading_in(bytes, columns_at(cases, at + Case::FIRST)),
+        b'S' => print_reading(reader::read(bytes)),
+        b's' => print_reading(reader::read_in(bytes, columns_at(cases, at + Case::FIRST))),
         b'L' => print_line(bytes, number_at(cases, at + Case::FIRST) as usize),
         b'l' => print_part(lines::line_in(
             bytes,

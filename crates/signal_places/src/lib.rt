@@ -1,11 +1,11 @@
 //! The place of each symbol among the signals of each component. Definitions and laws are those of the crate `excitations`.
-ghost use Rattle.std.specs.Prelude.{◌≡◌, true, ℕ, suc, ◌≤◌, ◌<◌, ◌*◌, eqb, length, get_or, replicate};
+ghost use Rattle.std.specs.Prelude.{◌≡◌, true, ℕ, suc, ◌≤◌, ◌<◌, ◌*◌, eqb, length, get_or};
 ghost use Rattle.ternary.specs.Lists.{count_below};
 ghost use Rattle.net.specs.Limits.{most_vertices};
 ghost use Rattle.net.specs.Symbols.{symbol_bound};
 ghost use Rattle.net.specs.Graph.{is_storage};
 ghost use Rattle.net.specs.SignalTable.{signal_index};
-ghost use Rattle.net.specs.Tables.{Prepared, input_labels};
+ghost use Rattle.net.specs.Tables.{Prepared};
 ghost use Rattle.lanes.specs.Grid.{cell, set_row};
 ghost use Rattle.excitations.specs.Conditions.{signal_places};
 
@@ -44,10 +44,9 @@ fn store_row<'a, 'b>(
     net: Net,
     storage: &'b [u8; Net::VERTEX_PLACES],
     labels: &'b [u8; Net::VERTEX_PLACES],
-    inputs: &'b [u16; Net::VERTEX_PLACES],
     y: u8,
 )
-    requires { Prepared net storage.now labels.now × (inputs.now ≡ input_labels net) × (is_storage net y ≡ true) × (y ≤ most_vertices)
+    requires { Prepared net storage.now labels.now × (is_storage net y ≡ true) × (y ≤ most_vertices)
         × (length places.old ≡ suc most_vertices * symbol_bound)
         × ((x s : ℕ) → is_storage net x ≡ true → x < y → s < symbol_bound → cell symbol_bound places.old x s ≡ signal_index net x s) }
     ensures { places.new ≡ set_row symbol_bound y (signal_index net y) places.old }
@@ -57,24 +56,24 @@ fn store_row<'a, 'b>(
         copy_row(places, x as usize, y as usize);
         return;
     }
-    let flags = signals::signal_flags(net, storage, labels, inputs, y);
+    let flags = signals::signal_flags(net, storage, labels, y);
     place_row(places, y as usize, &flags);
 }
 
-// The place of each symbol among the signals of each storage vertex's component. The table comes as zeros.
-pub fn fill<'a, 'b>(
-    places: &'a mut [u8; Net::SYMBOL_PLACES],
+// The place of each symbol among the signals of each storage vertex's component.
+pub fn signal_places<'a>(
     net: Net,
-    storage: &'b [u8; Net::VERTEX_PLACES],
-    labels: &'b [u8; Net::VERTEX_PLACES],
-)
-    requires { Prepared net storage.now labels.now × (places.old ≡ replicate (suc most_vertices * symbol_bound) 0) }
-    ensures { places.new ≡ signal_places net }
+    storage: &'a [u8; Net::VERTEX_PLACES],
+    labels: &'a [u8; Net::VERTEX_PLACES],
+) -> [u8; Net::SYMBOL_PLACES]
+    requires { Prepared net storage.now labels.now }
+    ensures { result ≡ signal_places net }
 {
-    let inputs = signals::input_labels(net);
+    let mut places = [0u8; Net::SYMBOL_PLACES];
     for y in 0..Net::VERTEX_PLACES {
         if storage[y] == 1 {
-            store_row(places, net, storage, labels, &inputs, y as u8);
+            store_row(&mut places, net, storage, labels, y as u8);
         }
     }
+    places
 }

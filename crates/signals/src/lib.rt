@@ -56,17 +56,17 @@ fn mark_end(flags: &mut [u8; Symbol::BOUND], member: bool, symbol: u16, label: u
     }
 }
 
-// 1 at each signal of y's component, by symbol number. inputs: the table of input labels, which a caller makes once for all components.
+// 1 at each signal of y's component, by symbol number.
 pub fn signal_flags<'a>(
     net: Net,
     storage: &'a [u8; Net::VERTEX_PLACES],
     labels: &'a [u8; Net::VERTEX_PLACES],
-    inputs: &'a [u16; Net::VERTEX_PLACES],
     y: u8,
 ) -> [u8; Symbol::BOUND]
-    requires { Prepared net storage.now labels.now × (inputs.now ≡ input_labels net) × (is_storage net y ≡ true) }
+    requires { Prepared net storage.now labels.now × (is_storage net y ≡ true) }
     ensures { result ≡ signal_flags net y }
 {
+    let inputs = input_labels(net);
     let mine = labels[y as usize];
     let mut flags = [0u8; Symbol::BOUND];
     let count = net.edge_count as usize;

@@ -5,27 +5,26 @@ mod prepared;
 ghost use Rattle.std.specs.Prelude.{◌≡◌, true};
 ghost use Rattle.std.proofs.Math.Option.{none};
 ghost use Rattle.net.specs.WellFormed.{place_c1};
-ghost use Rattle.records.specs.Tables.{key_tables};
+ghost use Rattle.excitations.specs.Excitations.{excitation_lanes};
 ghost use Rattle.sheet.specs.Valid.{valid};
 ghost use Rattle.settlements.specs.Settle.{settlement, settle_of};
 ghost use Rattle.settlements.specs.Batch.{batched, batch_of};
 
 use net::Net;
-use records::Record;
 use settlements::Settling;
 use sheet::Answer;
 
 // Settling: the states, the buffers, then the start.
 pub fn settle<'a, 'b>(
     net: Net,
-    tables: &'a [u8; Record::TABLES],
+    excitations: &'a [u8; Net::VERTEX_LANES],
     old: u32,
     new: u32,
     start: u32,
     r: &'b mut [u8],
     t: &'b mut [u8],
 ) -> Settling
-    requires { (valid net ≡ true) × (place_c1 net ≡ none) × (tables.now ≡ key_tables net) }
+    requires { (valid net ≡ true) × (place_c1 net ≡ none) × (excitations.now ≡ excitation_lanes net) }
     ensures { settlement result r.new t.new ≡ settle_of net old new start r.old t.old }
 {
     let h = graph::key_count(net);
@@ -40,7 +39,7 @@ pub fn settle<'a, 'b>(
     if t.len() < h {
         return job_tests::refused(Answer::SHORT_BUFFER, 0);
     }
-    let rows = growth::tables(net, tables);
+    let rows = prepared::ternary_tables(net, excitations);
     let additions = prepared::additions(net);
     let passed = passes::passes(
         &rows,
@@ -68,12 +67,12 @@ pub fn settle<'a, 'b>(
 // A batch: room for all jobs, then the jobs.
 pub fn batch<'a, 'b>(
     net: Net,
-    tables: &'a [u8; Record::TABLES],
+    excitations: &'a [u8; Net::VERTEX_LANES],
     lines: &'a [u8],
     results: &'b mut [u8],
     answers: &'b mut [u8],
 ) -> Answer
-    requires { (valid net ≡ true) × (place_c1 net ≡ none) × (tables.now ≡ key_tables net) }
+    requires { (valid net ≡ true) × (place_c1 net ≡ none) × (excitations.now ≡ excitation_lanes net) }
     ensures { batched result results.new answers.new ≡ batch_of net lines.now results.old answers.old }
 {
     let h = graph::key_count(net);
@@ -90,7 +89,7 @@ pub fn batch<'a, 'b>(
             place: 0,
         };
     }
-    let rows = growth::tables(net, tables);
+    let rows = prepared::ternary_tables(net, excitations);
     let additions = prepared::additions(net);
     batch_jobs::run(net, h, &rows, &additions, lines, results, answers);
     Answer {

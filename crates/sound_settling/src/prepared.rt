@@ -1,19 +1,32 @@
 //! What a call prepares once, however many jobs it settles.
 ghost use Rattle.std.specs.Prelude.{◌≡◌};
 ghost use Rattle.excitations.specs.Fit.{Fit};
+ghost use Rattle.excitations.specs.Excitations.{excitation_lanes};
+ghost use Rattle.lookups.specs.TernaryTables.{ternary_tables};
 ghost use Rattle.lookups.specs.Additions as spec;
 
 use net::Net;
 
-// What each signal adds to an index into the ternary tables.
+// The ternary tables of the key nodes.
+pub(crate) fn ternary_tables(
+    net: Net,
+    excitations: &[u8; Net::VERTEX_LANES],
+) -> [u8; Net::TERNARY_TABLES]
+    requires { Fit net × (excitations.now ≡ excitation_lanes net) }
+    ensures { result ≡ ternary_tables net }
+{
+    let keys = key_vertices::key_vertices(net);
+    growth::tables(net, &keys, excitations)
+}
+
+// What each signal adds to an index into them.
 pub(crate) fn additions(net: Net) -> [u16; Net::ADDITIONS]
     requires { Fit net }
     ensures { result ≡ spec.additions net }
 {
-    let mut storage = [0u8; Net::VERTEX_PLACES];
-    let mut labels = [0u8; Net::VERTEX_PLACES];
-    let mut places = [0u8; Net::SYMBOL_PLACES];
-    let mut keys = [0u8; Net::MOST_KEY_NODES];
-    states_preamble::fill(net, &mut storage, &mut labels, &mut places, &mut keys);
+    let storage = graph::storage_flags(net);
+    let labels = component_labels::component_labels(net, &storage);
+    let places = signal_places::signal_places(net, &storage, &labels);
+    let keys = key_vertices::key_vertices(net);
     additions::additions(net, &storage, &labels, &places, &keys)
 }

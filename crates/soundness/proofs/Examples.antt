@@ -3,7 +3,7 @@ use mathlib.Core.Path.{◌≡◌, refl}
 use mathlib.Core.List.{[], ◌∷◌, map}
 use Rattle.net.specs.declared.Net.{Net}
 use Rattle.net.proofs.Concrete.{vertex, edge, net}
-use Rattle.sheet.specs.Rows.{answer, by_rows_lem}
+use Rattle.sheet.specs.Rows.{answer, by_rows}
 use Rattle.sheet.specs.Record.{empty_net}
 use Rattle.sheet.proofs.Sheets.{open_all, worked_net}
 use Rattle.soundness.specs.declared.Excited.TheVariants.{Value, Refused}
@@ -11,7 +11,7 @@ use Rattle.soundness.specs.Excited.{excitation_rows, excited_of}
 use Rattle.soundness.specs.Verdict.{verdict_rows, verdict_of}
 
 opened : Unit {0}
-unfolding open_all by_rows_lem excitation_rows excited_of verdict_rows verdict_of worked_net
+unfolding open_all by_rows excitation_rows excited_of verdict_rows verdict_of worked_net
 opened = tt
 
 -- vertex 3 of the worked net is (a y)', y being itself: 1 at a = 0, and unstable at a = 1

@@ -5,7 +5,7 @@ use mathlib.Core.Bool.{true, false}
 use mathlib.Core.Logic.{◌↔◌}
 use Rattle.net.specs.declared.Net.{Net}
 use Rattle.net.specs.Graph.{key_count}
-use Rattle.sheet.specs.Rows.{answer, answered, first_row, by_rows_lem, First, NoRow}
+use Rattle.sheet.specs.Rows.{answer, answered, first_row, by_rows, First, NoRow}
 use Rattle.sheet.specs.Valid.{valid}
 use Rattle.sheet.proofs.RowLaws.{positive, answered_zero, answered_some, by_rows-answer, by_rows_fit, by_rows-first}
 use Rattle.soundness.specs.declared.KeyNodes.{KeyNodes}
@@ -13,11 +13,11 @@ use Rattle.soundness.specs.KeyNodes.{key_nodes, key_nodes_rows, key_nodes_of}
 
 module _ (N : Net) where
   pub no_record : valid N ≡ false → key_nodes (answer 41 0) 0 ≡ key_nodes_of N
-  unfolding key_nodes_of key_nodes_rows by_rows_lem first_row
+  unfolding key_nodes_of key_nodes_rows by_rows first_row
   no_record e = rw e
 
   pub counted : valid N ≡ true → {h : ℕ} → h ≡ key_count N → key_nodes (answer 0 0) h ≡ key_nodes_of N
-  unfolding key_nodes_of key_nodes_rows by_rows_lem first_row
+  unfolding key_nodes_of key_nodes_rows by_rows first_row
   counted e same = rw (e, same)
 
   answer_by_row : (key_nodes_of N).answer ≡ answered (first_row (key_nodes_rows N))

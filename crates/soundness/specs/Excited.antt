@@ -4,7 +4,7 @@ use Rattle.net.specs.declared.Net.{Net}
 use Rattle.net.specs.Graph.{is_storage}
 use Rattle.net.specs.Excitation.{excitation}
 use Rattle.net.specs.Network.{is_input_state, is_key_state}
-use Rattle.sheet.specs.Rows.{Row, row, when, by_rows_lem}
+use Rattle.sheet.specs.Rows.{Row, row, when, by_rows}
 use Rattle.sheet.specs.Valid.{valid}
 use Rattle.soundness.specs.declared.Excited.{Excited}
 use Rattle.soundness.specs.declared.Excited.TheVariants.{Value, Refused}
@@ -19,7 +19,7 @@ excitation_rows N a q y =
     ∷ []
 
 unfoldable pub excited_of : Net → ℕ → ℕ → ℕ → Excited
-excited_of N a q y = by_rows_lem (excitation_rows N a q y) (Value (excitation N a q y)) (λ r. Refused r.number)
+excited_of N a q y = by_rows (excitation_rows N a q y) (Value (excitation N a q y)) (λ r. Refused r.number)
 
 -- the number, the place and the value of an answer; under a number the value is 0
 abbrev pub excited_number : Excited → ℕ

@@ -1,18 +1,18 @@
 -- C1 by the table of excitations: a key node breaks it exactly if its row has an entry of 2, 3 or 5.
-use Prim.Native.Nat.{ℕ, ◌<◌}
+use Prim.Native.Nat.{ℕ, suc, ◌<◌}
 use mathlib.Core.Path.{◌≡◌}
 use mathlib.Core.Bool.{Bool, true, ◌&&◌}
 use native.Mathlib.Omega.{arith}
 use lib.Dec.{leb}
 use borrow.Author.Tests.{leb-true, le-leb}
-use Rattle.ternary.specs.Lists.{any_below}
-use Rattle.ternary.proofs.ListLaws.{any_found, any_of}
+use Rattle.ternary.specs.Lists.{any_below, least_below}
+use Rattle.ternary.proofs.ListLaws.{any_found, any_of, least_ext}
 use Rattle.ternary.proofs.Tests.{and_left, and_right, both, same_test}
 use Rattle.net.specs.declared.Net.{Net}
 use Rattle.net.specs.Graph.{is_key}
 use Rattle.net.specs.Excitation.{excitation}
 use Rattle.net.specs.SignalTable.{gather, spread_input, spread_keys, excitation_at}
-use Rattle.net.specs.WellFormed.{BreaksC1, breaks_c1}
+use Rattle.net.specs.WellFormed.{BreaksC1, breaks_c1, place_c1}
 use Rattle.net.proofs.Keys.{key_storage}
 use Rattle.net.proofs.SignalTable.{spread_clean}
 use Rattle.net.proofs.TableLaws.{storage_row}
@@ -48,3 +48,7 @@ module _ (N : Net) (fit : Fit N) where
   breaks_c1 v = same_test (breaks_c1 N v) (is_key N v && any_below assignments (unsettled N v))
       (λ e. there v ((breaks_c1_iff N v).0 e))
       (λ e. (breaks_c1_iff N v).1 (back v (and_left (is_key N v) _ e) (any_found (unsettled N v) assignments (and_right (is_key N v) _ e))))
+
+  pub place_c1_lem : place_c1 N ≡ least_below (suc N.vertex_count) (λ v. is_key N v && any_below assignments (unsettled N v))
+  unfolding place_c1
+  place_c1_lem = least_ext (suc N.vertex_count) (breaks_c1 N) _ (λ v _. breaks_c1 v)

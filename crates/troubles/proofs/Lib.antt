@@ -9,4 +9,5 @@ pub mod EdgeLaws
 pub mod VertexLaws
 pub mod LowestLaws
 pub mod FirstLaws
+pub mod BreakLaws
 pub mod VerdictTests

@@ -5,7 +5,7 @@ ghost use Rattle.std.specs.Prelude.{◌<◌, ◌≡◌, length};
 
 use cases::{Case, Input, data_of, next_case, number_at, number_text};
 use libc::{STDIN_FILENO, STDOUT_FILENO};
-use records::Record;
+use net::Net;
 use sheet::Answer;
 use soundness::Excited;
 
@@ -29,8 +29,8 @@ fn print_place(answer: Answer) {
 }
 
 // The excitation of one vertex: 0 and the value, or the number and 0.
-fn print_excitation(whole: Record, input: u32, key: u32, vertex: u32) {
-    match vertex_excitation::excitation(whole, input, key, vertex) {
+fn print_excitation(net: Net, input: u32, key: u32, vertex: u32) {
+    match vertex_excitation::excitation(net, input, key, vertex) {
         Excited::Value(v) => {
             print_column(0);
             print_column(v as u64);
@@ -43,8 +43,8 @@ fn print_excitation(whole: Record, input: u32, key: u32, vertex: u32) {
 }
 
 // The excitation of one vertex as a character: a hyphen where the vertex is not storage, a question mark for any other refusal.
-fn print_character(whole: Record, input: u32, key: u32, vertex: u32) {
-    match vertex_excitation::excitation(whole, input, key, vertex) {
+fn print_character(net: Net, input: u32, key: u32, vertex: u32) {
+    match vertex_excitation::excitation(net, input, key, vertex) {
         Excited::Value(v) => {
             io::print_decimal(STDOUT_FILENO, v as u64);
         }
@@ -59,17 +59,16 @@ fn print_character(whole: Record, input: u32, key: u32, vertex: u32) {
 }
 
 // Every vertex in order, one character each.
-fn print_state(whole: Record, input: u32, key: u32) {
-    let net = whole.net;
+fn print_state(net: Net, input: u32, key: u32) {
     let count = net.vertex_count as u32;
     for y in 0..count {
-        print_character(whole, input, key, y + 1);
+        print_character(net, input, key, y + 1);
     }
 }
 
 // The number of key nodes of a record: the number of its answer, and h.
-fn print_key_nodes(whole: Record) {
-    let given = record_keys::key_nodes(whole);
+fn print_key_nodes(net: Net) {
+    let given = record_keys::key_nodes(net);
     let answer = given.answer;
     print_column(answer.number as u64);
     print_column(given.count as u64);
@@ -82,14 +81,14 @@ fn print_answer(cases: &[u8], at: usize, sheet: &[u8])
     let input = number_at(cases, at + Case::FIRST);
     let key = number_at(cases, at + Case::SECOND);
     let vertex = number_at(cases, at + Case::THIRD);
-    let recorded = records_reader::read(sheet);
-    let whole = recorded.kept;
+    let reading = reader::read(sheet);
+    let net = reading.net;
     match cases[at] {
-        b'N' => print_place(recorded.answer),
-        b'V' => print_place(verdict::verdict(whole)),
-        b'K' => print_key_nodes(whole),
-        b'E' => print_excitation(whole, input, key, vertex),
-        _ => print_state(whole, input, key),
+        b'N' => print_place(reading.answer),
+        b'V' => print_place(verdict::verdict(net)),
+        b'K' => print_key_nodes(net),
+        b'E' => print_excitation(net, input, key, vertex),
+        _ => print_state(net, input, key),
     }
 }
 

@@ -104,12 +104,10 @@ pub fn fill<'a>(net: Net, excitations: &'a mut [u8; Net::VERTEX_LANES])
     requires { Fit net × (length excitations.old ≡ suc most_vertices * assignments) }
     ensures { excitations.new ≡ excitation_lanes net }
 {
-    let mut storage = [0u8; Net::VERTEX_PLACES];
-    let mut labels = [0u8; Net::VERTEX_PLACES];
-    let mut places = [0u8; Net::SYMBOL_PLACES];
-    let mut keys = [0u8; Net::MOST_KEY_NODES];
-    states_preamble::fill(net, &mut storage, &mut labels, &mut places, &mut keys);
+    let storage = graph::storage_flags(net);
+    let labels = component_labels::component_labels(net, &storage);
     let inputs = signals::input_labels(net);
+    let places = signal_places::signal_places(net, &storage, &labels);
     let columns = columns();
     fill_from(net, &storage, &inputs, &places, &columns, excitations);
 }

@@ -8,7 +8,7 @@ use Rattle.net.specs.declared.Edge.{Edge}
 use Rattle.net.specs.declared.Net.{Net}
 use Rattle.net.proofs.Concrete.{vertex, edge, net}
 use Rattle.sheet.specs.Limits.{field_width}
-use Rattle.sheet.specs.Rows.{answer, by_rows_lem}
+use Rattle.sheet.specs.Rows.{answer, by_rows}
 use Rattle.sheet.specs.Record.{empty_net}
 use Rattle.sheet.specs.Text.{text}
 use Rattle.sheet.proofs.Sheets.{open_all, worked_sheet, worked_net}
@@ -20,7 +20,7 @@ use Rattle.writer.proofs.AgreedLaws.{sheets_equal}
 
 -- opens every definition of the agreed order and of the calls
 unfoldable open_writer : Unit {0}
-unfolding open_all worked_net edges_of insert sort up_to edge_up_to low_first ordered_edges canonical canonical_in writing_rows writing_by by_rows_lem
+unfolding open_all worked_net edges_of insert sort up_to edge_up_to low_first ordered_edges canonical canonical_in writing_rows writing_by by_rows
 open_writer = tt
 
 -- the worked net in the agreed order: its last edge was drawn from 4 to 1

@@ -13,7 +13,7 @@ use borrow.Author.Tests.{lt-ltb, le-ltb}
 use Rattle.net.specs.declared.Net.{Net}
 use Rattle.sheet.specs.Limits.{Columns, most_columns, line_bytes, most_lines, sheet_bytes}
 use Rattle.sheet.specs.Line.{write_line}
-use Rattle.sheet.specs.Rows.{Row, answer, first_row, by_rows_lem, answered, First, NoRow}
+use Rattle.sheet.specs.Rows.{Row, answer, first_row, by_rows, answered, First, NoRow}
 use Rattle.sheet.specs.declared.Answer.{Answer}
 use Rattle.sheet.specs.Writing.{header_line, vertex_lines, edge_lines, write_in}
 use Rattle.sheet.specs.Valid.{valid}
@@ -85,16 +85,16 @@ module _ (sheet buffer : Bytes) {n : ℕ} (size : length sheet ≡ n) where
 
 module _ (N : Net) (sheet buffer : Bytes) where
   pub refused_record : valid N ≡ false → writing (answer 41 0) 0 buffer ≡ writing_by N sheet buffer
-  unfolding writing_by writing_rows by_rows_lem first_row
+  unfolding writing_by writing_rows by_rows first_row
   refused_record e = rw e
 
   pub front_record : valid N ≡ true → at_front sheet buffer ≡ writing_by N sheet buffer
-  unfolding writing_by writing_rows by_rows_lem first_row at_front
+  unfolding writing_by writing_rows by_rows first_row at_front
   front_record v = rw v (by_test (ltb (length buffer) (length sheet)) (λ t. rw t) (λ t. rw t))
 
   pub written_record : valid N ≡ true → length sheet ≤ length buffer
       → writing_by N sheet buffer ≡ writing (answer 0 0) (length sheet) (sheet ++ drop (length sheet) buffer)
-  unfolding writing_by writing_rows by_rows_lem first_row
+  unfolding writing_by writing_rows by_rows first_row
   written_record v h = rw (v, le-ltb (length buffer) (length sheet) h)
 
   -- ---- by its rows

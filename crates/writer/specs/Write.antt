@@ -3,7 +3,7 @@ use Rattle.std.specs.Prelude.{ℕ, not, List, [], ◌∷◌, ◌++◌, ltb, leng
 use Rattle.ternary.specs.Lists.{Bytes}
 use Rattle.net.specs.declared.Net.{Net}
 use Rattle.sheet.specs.declared.Answer.{Answer}
-use Rattle.sheet.specs.Rows.{Row, row, when, answer, by_rows_lem}
+use Rattle.sheet.specs.Rows.{Row, row, when, answer, by_rows}
 use Rattle.sheet.specs.Valid.{valid}
 use Rattle.sheet.specs.Writing.{write_sheet}
 use Rattle.writer.specs.Agreed.{canonical_sheet}
@@ -24,7 +24,7 @@ writing_rows N sheet buffer = row 41 (when (not (valid N))) ∷ row 51 (when (lt
 -- the sheet at the buffer's front, and the bytes beyond it stay; a refusal writes nothing
 unfoldable pub writing_by : Net → Bytes → Bytes → Writing
 writing_by N sheet buffer =
-    by_rows_lem (writing_rows N sheet buffer)
+    by_rows (writing_rows N sheet buffer)
     (writing (answer 0 0) (length sheet) (sheet ++ drop (length sheet) buffer))
     (λ a. writing a 0 buffer)
 

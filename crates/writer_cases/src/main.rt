@@ -8,7 +8,6 @@ ghost use Rattle.io.specs.Counts.{IsPrefixLen};
 use cases::{Case, Input, data_of, next_case, number_at, number_text};
 use libc::{STDIN_FILENO, STDOUT_FILENO};
 use net::Net;
-use records::Record;
 use sheet::{Answer, Sheet};
 use writer::Written;
 
@@ -73,13 +72,13 @@ fn print_written(written: Written, buffer: &[u8]) {
     io::write_all(STDOUT_FILENO, buffer);
 }
 
-fn print_agreed(whole: Record, buffer: &mut [u8]) {
-    let written = writer_sheet::write(whole, buffer);
+fn print_agreed(net: Net, buffer: &mut [u8]) {
+    let written = writer_sheet::write(net, buffer);
     print_written(written, buffer);
 }
 
-fn print_own(whole: Record, buffer: &mut [u8]) {
-    let written = writer_sheet::write_in_own_order(whole, buffer);
+fn print_own(net: Net, buffer: &mut [u8]) {
+    let written = writer_sheet::write_in_own_order(net, buffer);
     print_written(written, buffer);
 }
 
@@ -102,14 +101,14 @@ fn run_text<'a>(cases: &'a [u8], at: usize, sheet: &'a [u8])
 }
 
 // The record that is read from what is written in the agreed order.
-fn read_back(whole: Record, buffer: &mut [u8]) -> Record {
-    let written = writer_sheet::write(whole, buffer);
+fn read_back(net: Net, buffer: &mut [u8]) -> Net {
+    let written = writer_sheet::write(net, buffer);
     let size = io::count(written.length as isize, buffer);
-    let recorded = records_reader::read(&buffer[..size]);
-    recorded.kept
+    let reading = reader::read(&buffer[..size]);
+    reading.net
 }
 
-// The net with another label at a vertex place, counted from 0.
+// The record with another label at a vertex place, counted from 0.
 fn with_label(net: Net, place: usize, value: u32) -> Net {
     if Net::MOST_VERTICES <= place {
         return net;
@@ -119,7 +118,7 @@ fn with_label(net: Net, place: usize, value: u32) -> Net {
     out
 }
 
-// The net with another symbol at an edge place, counted from 0.
+// The record with another symbol at an edge place, counted from 0.
 fn with_symbol(net: Net, place: usize, value: u32) -> Net {
     if Net::MOST_EDGES <= place {
         return net;
@@ -147,7 +146,7 @@ fn with_letter_count(net: Net, value: u32) -> Net {
     out
 }
 
-// The net with the number that the case at a place alters; as it is where the case alters none.
+// The record with the number that the case at a place alters; as it is where the case alters none.
 fn altered(cases: &[u8], at: usize, net: Net) -> Net
     requires { at < length cases.now }
 {
@@ -170,26 +169,23 @@ fn size_at(cases: &[u8], at: usize, buffer: &[u8]) -> usize
     io::count(number_at(cases, at) as isize, buffer)
 }
 
-// The record that the case at a place is about: the tables that were read, and the net with what the case alters; for a case that writes once more, what
-// was read back.
-fn record_of(cases: &[u8], at: usize, whole: Record) -> Record
+// The record that the case at a place is about: the one that was read, with what the case alters; for a case that writes once more, what was read back.
+fn record_of(cases: &[u8], at: usize, net: Net) -> Net
     requires { at < length cases.now }
 {
-    let net = altered(cases, at, whole.net);
-    let tables = whole.tables;
-    let edited = Record { net, tables };
+    let record = altered(cases, at, net);
     if cases[at] != b'A' {
-        return edited;
+        return record;
     }
     let mut buffer = sheet_buffer();
-    read_back(edited, &mut buffer)
+    read_back(record, &mut buffer)
 }
 
 // The writing that the case at a place asks for.
-fn run_writing(cases: &[u8], at: usize, whole: Record)
+fn run_writing(cases: &[u8], at: usize, net: Net)
     requires { at < length cases.now }
 {
-    let record = record_of(cases, at, whole);
+    let record = record_of(cases, at, net);
     let mut buffer = sheet_buffer();
     let size = size_at(cases, at + Case::FIRST, &buffer);
     if cases[at] == b'O' {
@@ -203,11 +199,11 @@ fn run_writing(cases: &[u8], at: usize, whole: Record)
 fn print_answer<'a>(cases: &'a [u8], at: usize, sheet: &'a [u8])
     requires { at < length cases.now }
 {
-    let recorded = records_reader::read(sheet);
+    let reading = reader::read(sheet);
     match cases[at] {
-        b'N' => print_place(recorded.answer),
+        b'N' => print_place(reading.answer),
         b'T' => run_text(cases, at, sheet),
-        _ => run_writing(cases, at, recorded.kept),
+        _ => run_writing(cases, at, reading.net),
     }
 }
 

@@ -3,17 +3,14 @@
 
 mod lines;
 
-ghost use Rattle.std.specs.Prelude.{◌≡◌, true, ◌≤◌};
+ghost use Rattle.std.specs.Prelude.{◌≡◌, ◌≤◌};
 ghost use Rattle.sheet.specs.Limits.{most_columns};
 ghost use Rattle.sheet.specs.Rows.{answer};
-ghost use Rattle.sheet.specs.Valid.{valid};
 ghost use Rattle.sheet.specs.Writing.{write_in};
-ghost use Rattle.records.specs.Records.{net_of_record};
 ghost use Rattle.writer.specs.Write.{writing, writing_of, own_writing_of};
 ghost use Rattle.writer.specs.Fronts.{Sized, at_front};
 
 use net::Net;
-use records::Record;
 use sheet::{Answer, Sheet};
 use writer::Written;
 
@@ -55,41 +52,23 @@ fn bad_record() -> Written
     }
 }
 
-// A record in the agreed order that is known to be one, since it was just read.
-pub fn write_tested(net: Net, buffer: &mut [u8]) -> Written
-    requires { valid net ≡ true }
+// Any record in the agreed order, to the front of any buffer.
+pub fn write(net: Net, buffer: &mut [u8]) -> Written
     ensures { writing result.answer result.length buffer.new ≡ writing_of net buffer.old }
 {
+    if !record::is_record(net) {
+        return bad_record();
+    }
     let ordered = writer_order::ordered(net);
     put_front(ordered, Sheet::FIELD_WIDTH, buffer)
 }
 
-// Any record in the agreed order, to the front of any buffer.
-pub fn write(whole: Record, buffer: &mut [u8]) -> Written
-    ensures { writing result.answer result.length buffer.new ≡ writing_of (net_of_record whole) buffer.old }
-{
-    if !records_test::is_record(whole) {
-        return bad_record();
-    }
-    let net = whole.net;
-    write_tested(net, buffer)
-}
-
-// A record in its own order that is known to be one.
-pub fn write_tested_in_own_order(net: Net, buffer: &mut [u8]) -> Written
-    requires { valid net ≡ true }
+// Any record in its own order, to the front of any buffer.
+pub fn write_in_own_order(net: Net, buffer: &mut [u8]) -> Written
     ensures { writing result.answer result.length buffer.new ≡ own_writing_of net buffer.old }
 {
-    put_front(net, Sheet::FIELD_WIDTH, buffer)
-}
-
-// Any record in its own order, to the front of any buffer.
-pub fn write_in_own_order(drawn: Record, buffer: &mut [u8]) -> Written
-    ensures { writing result.answer result.length buffer.new ≡ own_writing_of (net_of_record drawn) buffer.old }
-{
-    if !records_test::is_record(drawn) {
+    if !record::is_record(net) {
         return bad_record();
     }
-    let net = drawn.net;
-    write_tested_in_own_order(net, buffer)
+    put_front(net, Sheet::FIELD_WIDTH, buffer)
 }

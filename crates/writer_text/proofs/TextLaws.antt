@@ -12,7 +12,7 @@ use Rattle.ternary.specs.Lists.{Bytes}
 use Rattle.net.specs.declared.Net.{Net}
 use Rattle.sheet.specs.declared.Answer.{Answer}
 use Rattle.sheet.specs.declared.Reading.{Reading}
-use Rattle.sheet.specs.Limits.{field_width, most_bytes_lem}
+use Rattle.sheet.specs.Limits.{field_width, most_bytes}
 use Rattle.sheet.specs.Reading.{read_sheet}
 use Rattle.sheet.specs.Valid.{valid}
 use Rattle.sheet.proofs.Outcome.{valid-at_zero}
@@ -29,19 +29,19 @@ use Rattle.writer.proofs.WriteLaws.{canonical-fits, written_record}
 use Rattle.writer_text.specs.Text.{printed, whole_report, text_of, report_of}
 
 module _ (text out : Bytes) where
-  pub text_short : length out < most_bytes_lem → report Short out ≡ whole_report text out
-  text_short h = put_short Last most_bytes_lem text out h
+  pub text_short : length out < most_bytes → report Short out ≡ whole_report text out
+  text_short h = put_short Last most_bytes text out h
 
-  module _ (room : most_bytes_lem ≤ length out) where
+  module _ (room : most_bytes ≤ length out) where
     -- so many bytes of the buffer are the text
     text-whole : {n : ℕ} → length text ≡ n → report (Last n) (text ++ drop n out) ≡ whole_report text out
-    text-whole size = put_whole Last most_bytes_lem text out room size
+    text-whole size = put_whole Last most_bytes text out room size
 
     pub program_text_lem : written_of (whole_report text out) ≡ text
     program_text_lem = ap written_of (sym (text-whole refl)) ∙ take_at text (drop (length text) out) (length text) refl
 
 -- the line of a refusal
-pub line-report : (a : Answer) (out : Bytes) → most_bytes_lem ≤ length out → {part : Bytes} → part ≡ first_line a 0
+pub line-report : (a : Answer) (out : Bytes) → most_bytes ≤ length out → {part : Bytes} → part ≡ first_line a 0
     → report (Last opening_bytes) (part ++ drop opening_bytes out) ≡ whole_report (first_line a 0) out
 line-report a out room p = rw p (text-whole (first_line a 0) out room (length-first a 0))
 
@@ -51,7 +51,7 @@ module _ (write : Net → Bytes) (r : Reading) (out : Bytes) where
   text-refused h e = rw (ne_eqb r.answer.number 0 h) e
 
   -- as the call that writes the sheet says
-  pub text-written : most_bytes_lem ≤ length out → r.answer.number ≡ 0 → valid r.net ≡ true → length (write r.net) ≤ most_bytes_lem
+  pub text-written : most_bytes ≤ length out → r.answer.number ≡ 0 → valid r.net ≡ true → length (write r.net) ≤ most_bytes
       → {a : Answer} {n : ℕ} {after : Bytes} → writing a n after ≡ writing_by r.net (write r.net) out → report (Last n) after ≡ whole_report (printed write r) out
   unfolding printed
   text-written room h v fits e =
@@ -69,7 +69,7 @@ module _ (sheet out : Bytes) {r : Reading} (read : r ≡ read_sheet sheet) where
   pub net-refused : r.answer.number ≢ 0 → {w : Report} → w ≡ whole_report (first_line r.answer 0) out → w ≡ report_of sheet out
   net-refused h e = text-refused canonical_sheet r out h e ∙ net_text_lem
 
-  pub net-written : most_bytes_lem ≤ length out → r.answer.number ≡ 0 → {a : Answer} {n : ℕ} {after : Bytes} → writing a n after ≡ writing_of r.net out
+  pub net-written : most_bytes ≤ length out → r.answer.number ≡ 0 → {a : Answer} {n : ℕ} {after : Bytes} → writing a n after ≡ writing_of r.net out
       → report (Last n) after ≡ report_of sheet out
   net-written room h e =
       let v = valid-at_zero field_width sheet r read h in

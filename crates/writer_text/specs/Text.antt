@@ -3,7 +3,7 @@ use Rattle.std.specs.Prelude.{true, cond, ◌≡◌, eqb}
 use Rattle.ternary.specs.Lists.{Bytes}
 use Rattle.net.specs.declared.Net.{Net}
 use Rattle.sheet.specs.declared.Reading.{Reading}
-use Rattle.sheet.specs.Limits.{most_bytes_lem}
+use Rattle.sheet.specs.Limits.{most_bytes}
 use Rattle.sheet.specs.Reading.{read_sheet}
 use Rattle.sheet.specs.Valid.{valid}
 use Rattle.sheet.specs.Writing.{write_sheet}
@@ -18,7 +18,7 @@ printed write reading = cond (eqb reading.answer.number 0) (write reading.net) (
 
 -- a text at the front of a buffer with room for any sheet, and nothing is to follow it
 abbrev pub whole_report : (text : Bytes) → Bytes → Report
-whole_report text out = put Last most_bytes_lem text out
+whole_report text out = put Last most_bytes text out
 
 -- ---- the program `write_net`, for the bytes of the file `net`: the net's sheet in the agreed order
 

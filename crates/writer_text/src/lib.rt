@@ -32,7 +32,7 @@ pub fn text<'a, 'b>(sheet: &'a [u8], out: &'b mut [u8]) -> Written
         return refusal_text(answer, out);
     }
     let net = reading.net;
-    let written = writer_sheet::write_tested(net, out);
+    let written = writer_sheet::write(net, out);
     Written::Last(written.length)
 }
 
@@ -45,7 +45,7 @@ pub fn own_text(reading: Reading, out: &mut [u8]) -> Written
     let number = answer.number;
     if number == 0 {
         let net = reading.net;
-        let written = writer_sheet::write_tested_in_own_order(net, out);
+        let written = writer_sheet::write_in_own_order(net, out);
         return Written::Last(written.length);
     }
     refusal_text(answer, out)

@@ -12,10 +12,10 @@ use Rattle.c1.proofs.row_breaks.Statement.{statement}
 use Rattle.c1.proofs.row_breaks.Tie as tie
 
 abbrev invariant-loop : tie.invariant-loop
-invariant-loop tables k from found₀ w₀ found w = (w ≤ assignments) × (found ≡ digit (any_below w (λ x. leb 2 (lane tables k x))))
+invariant-loop excitations y from found₀ w₀ found w = (w ≤ assignments) × (found ≡ digit (any_below w (λ x. leb 2 (lane excitations y x))))
 
 abbrev decreases-loop : tie.decreases-loop
-decreases-loop tables k from found₀ w₀ found w = assignments - w
+decreases-loop excitations y from found₀ w₀ found w = assignments - w
 
 mul-from : tie.Need-overflow-mul-from invariant-loop decreases-loop
 mul-from c = search rules

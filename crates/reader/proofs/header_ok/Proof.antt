@@ -1,16 +1,16 @@
 -- `header_ok_lem` meets its contract.
 use borrow.Author.Tests.{eq-eqb, ne_eqb}
 use borrow.Author.Rules.{rules}
-use Rattle.sheet.specs.Rules.{header_ok_lem}
+use Rattle.sheet.specs.Rules.{header_ok}
 use Rattle.reader.proofs.header_ok.Statement.{statement}
 use Rattle.reader.proofs.header_ok.Tie as tie
 
 returns : tie.Need-returns
-unfolding header_ok_lem
+unfolding header_ok
 returns c = rw (ne_eqb _ _ c.if1.true)
 
 returns-2 : tie.Need-returns-2
-unfolding header_ok_lem
+unfolding header_ok
 returns-2 c = rw (eq-eqb _ _ c.before.before.if1.false, ne_eqb _ _ c.if2.true)
 
 cast-counts-ok : tie.Need-overflow-cast-counts-ok
@@ -26,7 +26,7 @@ counts-ok-requires : tie.Need-counts-ok-requires
 counts-ok-requires c κs = search rules
 
 returns-3 : tie.Need-returns-3
-unfolding header_ok_lem
+unfolding header_ok
 returns-3 c =
     let w = c.before.before.before.before in
     rw (eq-eqb _ _ w.before.before.if1.false, eq-eqb _ _ w.if2.false) c.counts-ok.ensures

@@ -8,7 +8,7 @@ use Rattle.sheet.specs.declared.LineRead.TheVariants.{Five}
 use Rattle.sheet.specs.Limits.{line_bytes, most_lines}
 use Rattle.sheet.specs.Line.{read_line, line_answer}
 use Rattle.sheet.specs.Record.{start_net}
-use Rattle.sheet.specs.Rules.{header_ok_lem}
+use Rattle.sheet.specs.Rules.{header_ok}
 use Rattle.sheet.specs.Reading.{size_ok}
 use Rattle.sheet.proofs.RuleLaws.{Counts}
 use Rattle.sheet.proofs.HeaderSteps.{first-lent, bad_length, first_line_lem, bad_first_line, bad_header, header_counts, bad_line-count, start_so_far, body_room, body_read}
@@ -46,7 +46,7 @@ five-at : (c : tie.After-header) → let a = (start (past-length c)).args in
 five-at c = first-lent _ _ _ (width_is (past-length c)) ∙ sym c.before.before.read-line.ensures ∙ c.header.given.1
 
 -- the header's values are allowed
-ok_at : (c : tie.Else2) → header_ok_lem (header_at c).header.given.0.0 ≡ true
+ok_at : (c : tie.Else2) → header_ok (header_at c).header.given.0.0 ≡ true
 ok_at c = sym c.before.header_ok.ensures ∙ not-false _ c.if2.false
 
 counts-at : (c : tie.Else2) → let h = (header_at c).header.given.0.0 in Counts h.second h.third h.fourth

@@ -1,9 +1,8 @@
 -- To read what is left, with the record so far, gives the whole answer; and the record so far holds only allowed values.
-use Prim.Native.Nat.{ℕ, ◌+◌, ◌-◌, ◌*◌, ◌≤◌, ◌<◌}
+use Prim.Native.Nat.{ℕ, ◌+◌, ◌-◌, ◌*◌, ◌≤◌}
 use native.Mathlib.Nat.{sub-zero, mul-one}
 use native.Mathlib.Omega.{arith}
-use mathlib.Core.Path.{◌≡◌, refl, sym, ap, subst, ◌∙◌}
-use mathlib.Core.Logic.{⊎_elim}
+use mathlib.Core.Path.{◌≡◌, sym, ap, ◌∙◌}
 use lib.ListN.{length, drop}
 use borrow.Author.Rules.{rules}
 use Rattle.sheet.specs.Limits.{line_bytes}
@@ -12,45 +11,34 @@ use Rattle.sheet.specs.declared.LineRead.TheVariants.{Five}
 use Rattle.sheet.specs.declared.Decoded.TheVariants.{Allowed, Refused}
 use Rattle.sheet.specs.Line.{read_line, line_answer}
 use Rattle.sheet.specs.Reading.{read_lines}
-use Rattle.sheet.specs.Entries.{decode_line, refusal_of, with_entry}
+use Rattle.sheet.specs.Entries.{decode_line, refusal_of}
 use Rattle.net.specs.Limits.{most_vertices, most_edges}
 use Rattle.sheet.proofs.RuleLaws.{counts_facts}
 use Rattle.sheet.proofs.Progress.{line-added, counts_kept, all_added}
 use Rattle.sheet.proofs.WholeLines.{line_after, line-within}
 use Rattle.sheet.proofs.LoopLaws.{loop_next, loop_stop, loop_end}
-use Rattle.sheet.proofs.RuleSteps.{named_role}
-use Rattle.sheet.proofs.BodySteps.{HasPlace, entry_place, vertices_kept, letters_kept, vertex_stored, edge_stored}
+use Rattle.sheet.proofs.BodySteps.{entry_place}
 use Rattle.sheet.proofs.ReaderSteps.{lent, not_fields, line_stops, line-goes_on, line_steps}
 use Rattle.reader.proofs.read_lines.Statement.{statement}
 use Rattle.reader.proofs.read_lines.Tie as tie
 
 abbrev invariant-loop : tie.invariant-loop
-invariant-loop sheet columns count width vertices letters net₀ at₀ j₀ net at j =
+invariant-loop sheet columns count width net₀ at₀ j₀ net at j =
     (j ≤ count) × (at ≡ line_bytes columns * (1 + j)) × (count ≡ net.vertex_count + net.edge_count) × SoFar net j
     × (read_lines columns (count - j) (drop at sheet) j net ≡ read_lines columns count (drop (line_bytes columns) sheet) 0 net₀)
-    × (vertices ≡ net.vertex_count) × (letters ≡ net.letter_count)
 
 abbrev decreases-loop : tie.decreases-loop
-decreases-loop sheet columns count width vertices letters net₀ at₀ j₀ net at j = count - j
+decreases-loop sheet columns count width net₀ at₀ j₀ net at j = count - j
 
--- places, each from a later one: the start, in the loop, the line read, its five numbers, the place of the vertex that its last number names
-abbrev sheet-lent : tie.After-line-bytes invariant-loop decreases-loop → tie.Start invariant-loop decreases-loop
-sheet-lent c = c.before.before
-
+-- places, each from a later one: the start, in the loop, the line read, its five numbers
 abbrev start : tie.In-loop invariant-loop decreases-loop → tie.Start invariant-loop decreases-loop
-start c = sheet-lent c.before.before
+start c = c.before.before.before.before
 
 abbrev in-loop : tie.After-read-line invariant-loop decreases-loop → tie.In-loop invariant-loop decreases-loop
 in-loop c = c.before.before
 
-abbrev line_read : tie.After-line invariant-loop decreases-loop → tie.After-read-line invariant-loop decreases-loop
-line_read c = c.before.before
-
-abbrev numbers : tie.After-named-place invariant-loop decreases-loop → tie.After-line invariant-loop decreases-loop
-numbers c = c.before.before
-
-abbrev turn-of : tie.After-decode-line invariant-loop decreases-loop → tie.In-loop invariant-loop decreases-loop
-turn-of c = in-loop (line_read (numbers c.before))
+abbrev line_read : tie.After-decode-line invariant-loop decreases-loop → tie.After-read-line invariant-loop decreases-loop
+line_read c = c.before.before.before.before
 
 -- and the line decoded, where it is allowed and where it is refused
 abbrev allowed : tie.After-known-told2 invariant-loop decreases-loop → tie.After-decode-line invariant-loop decreases-loop
@@ -58,13 +46,6 @@ allowed c = c.before.before.before
 
 abbrev not-allowed : tie.After-refusal-of invariant-loop decreases-loop → tie.After-decode-line invariant-loop decreases-loop
 not-allowed c = c.before.before.before
-
--- what an allowed line adds, a vertex or an edge
-abbrev vertex-added : tie.After-known-told3 invariant-loop decreases-loop → tie.After-known-told2 invariant-loop decreases-loop
-vertex-added c = c.before.before.before
-
-abbrev edge-added : tie.After-known-told4 invariant-loop decreases-loop → tie.After-known-told2 invariant-loop decreases-loop
-edge-added c = c.before.before.before
 
 -- a sheet has few lines
 few : (c : tie.In-loop invariant-loop decreases-loop) → (start c).args.count ≤ most_vertices + most_edges
@@ -83,52 +64,20 @@ within c =
     let room = line-within (line_bytes (start c).args.columns) loop.j (start c).args.count c.loop-test.true in
     omega (arith, width_is c, loop.invariant.1, room, (start c).requires.2)
 
--- the line's five numbers
-five : (c : tie.After-line invariant-loop decreases-loop) → let turn = in-loop (line_read c) in
+-- the line's five numbers, and what it is decoded to where it is allowed
+five : (c : tie.After-decode-line invariant-loop decreases-loop) → let turn = in-loop (line_read c) in
     line_answer (read_line (start turn).args.columns (lent turn.before.before.line-bytes.result (start turn).args.sheet.now turn.before.loop.at))
-    ≡ Five c.line.given.0.0
-five c = sym (line_read c).read-line.ensures ∙ c.line.given.1
+    ≡ Five c.before.before.line.given.0.0
+five c = sym (line_read c).read-line.ensures ∙ c.before.before.line.given.1
 
--- what the line is decoded to, by the record so far
-decoded : (c : tie.After-decode-line invariant-loop decreases-loop) → let w = (turn-of c).before in
-    c.decode-line.result ≡ decode_line w.loop.net w.loop.j (numbers c.before).line.given.0.0
-decoded c =
-    let w = (turn-of c).before in
-    c.decode-line.ensures w.loop.net
-    record { vertex_count = w.loop.inv.5; letter_count = w.loop.inv.6; named_role = named_role _ _ _ c.before.named-place.ensures.0 }
-
--- where it is allowed: what it adds, and that there is a place for it
-entry : (c : tie.After-known-told2 invariant-loop decreases-loop) → let w = (turn-of (allowed c)).before in
-    decode_line w.loop.net w.loop.j (numbers (allowed c).before).line.given.0.0 ≡ Allowed c.before.decoded.given.0.0
-entry c = sym (decoded (allowed c)) ∙ c.before.decoded.given.1
-
-place : (c : tie.After-known-told2 invariant-loop decreases-loop) → let w = (turn-of (allowed c)).before in HasPlace w.loop.net w.loop.j c.before.decoded.given.0.0
-place c =
-    let turn = turn-of (allowed c) in
-    let w = turn.before in
-    let n = counts_facts _ _ _ w.loop.inv.3.counts in
-    entry_place w.loop.net w.loop.j _ (omega (arith, turn.loop-test.taken)) n.vertices n.edges _ (entry c)
-
-vertex-place : (c : tie.After-known-told3 invariant-loop decreases-loop) → (turn-of (allowed (vertex-added c))).before.loop.j < most_vertices
-vertex-place c = subst (HasPlace _ _) c.before.entry.given.1 (place (vertex-added c))
-
-edge-place : (c : tie.After-known-told4 invariant-loop decreases-loop) → let w = (turn-of (allowed (edge-added c))).before in
-    (w.loop.net.vertex_count ≤ w.loop.j) × (w.loop.j - w.loop.net.vertex_count < most_edges)
-edge-place c = subst (HasPlace _ _) c.before.entry2.given.1 (place (edge-added c))
-
--- the record with it
-added : (c : tie.At-match3-branch invariant-loop decreases-loop) → let w = (turn-of (allowed c.before)).before in
-    c.match3.net ≡ with_entry w.loop.net w.loop.j c.before.before.decoded.given.0.0
-added c =
-    let w = (turn-of (allowed c.before)).before in
-    ⊎_elim (λ v. v.3 ∙ vertex_stored _ w.loop.j _ _ v.1.given.1) (λ e. e.3 ∙ edge_stored _ w.loop.j _ _ _ w.loop.inv.5 e.1.given.1)
-    c.match3.branch
+entry : (c : tie.After-known-told2 invariant-loop decreases-loop) → decode_line (in-loop (line_read (allowed c))).before.loop.net (in-loop (line_read (allowed c))).before.loop.j (allowed c).before.before.line.given.0.0 ≡ Allowed c.before.decoded.given.0.0
+entry c = sym (allowed c).decode-line.ensures ∙ c.before.decoded.given.1
 
 line-bytes-requires : tie.Need-line-bytes-requires invariant-loop decreases-loop
 line-bytes-requires c κs = search rules
 
 loop-holds : tie.Need-loop-init invariant-loop decreases-loop
-loop-holds c = let p = c.before.before.requires in (omega arith, c.line-bytes.ensures ∙ sym (mul-one _), p.1, p.0, rw (sub-zero, c.line-bytes.ensures), refl, refl)
+loop-holds c = let p = c.before.before.requires in (omega arith, c.line-bytes.ensures ∙ sym (mul-one _), p.1, p.0, rw (sub-zero, c.line-bytes.ensures))
 
 add-end : tie.Need-overflow-add-end invariant-loop decreases-loop
 add-end c = let h = within c in search rules
@@ -155,7 +104,7 @@ add-refusal : tie.Need-overflow-add-refusal invariant-loop decreases-loop
 add-refusal c = search rules
 
 cast-refusal : tie.Need-overflow-cast-refusal invariant-loop decreases-loop
-cast-refusal c = omega (arith, few (in-loop c.before.before))
+cast-refusal c = omega (arith, few c.before.before.before.before)
 
 refusal-requires : tie.Need-refusal-requires invariant-loop decreases-loop
 refusal-requires c κs = search rules
@@ -168,15 +117,6 @@ returns c =
     c.refusal.ensures
     ∙ loop_stop _ _ w.loop.at (start turn).args.count w.loop.j w.loop.net _ w.loop.inv.4 turn.loop-test.taken 12
     (not_fields _ _ w.loop.at w.loop.j w.loop.net _ (width_is turn) (sym read.read-line.ensures ∙ c.before.enum_told.given.1))
-
-named-place-requires : tie.Need-named-place-requires invariant-loop decreases-loop
-named-place-requires c κs = search rules
-
-mul-role : tie.Need-overflow-mul-role invariant-loop decreases-loop
-mul-role c = search rules
-
-element-copy-out-role : tie.Need-element-copy-out-role invariant-loop decreases-loop
-element-copy-out-role c = c.named-place.ensures.1
 
 decode-line-requires : tie.Need-decode-line-requires invariant-loop decreases-loop
 decode-line-requires c κs = search rules
@@ -191,10 +131,10 @@ refusal-of-requires : tie.Need-refusal-of-requires invariant-loop decreases-loop
 refusal-of-requires c κs = search rules
 
 add-refusal-2 : tie.Need-overflow-add-refusal-2 invariant-loop decreases-loop
-add-refusal-2 c = let turn = turn-of (not-allowed c) in omega (arith, few turn, turn.loop-test.taken)
+add-refusal-2 c = let turn = in-loop (line_read (not-allowed c)) in omega (arith, few turn, turn.loop-test.taken)
 
 cast-refusal-2 : tie.Need-overflow-cast-refusal-2 invariant-loop decreases-loop
-cast-refusal-2 c = let turn = turn-of (not-allowed c) in omega (arith, few turn, turn.loop-test.taken)
+cast-refusal-2 c = let turn = in-loop (line_read (not-allowed c)) in omega (arith, few turn, turn.loop-test.taken)
 
 refusal-requires-2 : tie.Need-refusal-requires-2 invariant-loop decreases-loop
 refusal-requires-2 c κs = search rules
@@ -202,38 +142,21 @@ refusal-requires-2 c κs = search rules
 returns-2 : tie.Need-returns-2 invariant-loop decreases-loop
 returns-2 c =
     let refused = c.before in
-    let line = not-allowed refused in
-    let turn = turn-of line in
+    let decoded = not-allowed refused in
+    let turn = in-loop (line_read decoded) in
     let w = turn.before in
     let told = refused.before.enum-told2.given.1 in
     let number = refused.refusal-of.ensures ∙ ap refusal_of told in
     c.refusal2.ensures
     ∙ loop_stop _ _ w.loop.at (start turn).args.count w.loop.j w.loop.net _ w.loop.inv.4 turn.loop-test.taken _
-    (line_stops _ _ w.loop.at w.loop.j w.loop.net _ (width_is turn) _ (five (numbers line.before)) refused.refusal-of.result (sym (decoded line) ∙ told ∙ ap Refused (sym number)))
+    (line_stops _ _ w.loop.at w.loop.j w.loop.net _ (width_is turn) _ (five decoded) refused.refusal-of.result (sym decoded.decode-line.ensures ∙ told ∙ ap Refused (sym number)))
 
-enum-known-entry : tie.Need-enum-known-entry invariant-loop decreases-loop
-enum-known-entry c = search rules
-
-mul-vertex : tie.Need-overflow-mul-vertex invariant-loop decreases-loop
-mul-vertex c = omega (arith, vertex-place c)
-
-element-set-from-vertex : tie.Need-element-set-from-vertex invariant-loop decreases-loop
-element-set-from-vertex c = vertex-place c
-
-enum-known-entry-2 : tie.Need-enum-known-entry-2 invariant-loop decreases-loop
-enum-known-entry-2 c = search rules
-
-cast-edge : tie.Need-overflow-cast-edge invariant-loop decreases-loop
-cast-edge c = search rules
-
-sub-edge : tie.Need-overflow-sub-edge invariant-loop decreases-loop
-sub-edge c = omega (arith, (edge-place c).0)
-
-mul-edge : tie.Need-overflow-mul-edge invariant-loop decreases-loop
-mul-edge c = omega (arith, (edge-place c).1)
-
-element-set-from-edge : tie.Need-element-set-from-edge invariant-loop decreases-loop
-element-set-from-edge c = omega (arith, (edge-place c).1)
+with-entry-requires : tie.Need-with-entry-requires invariant-loop decreases-loop
+with-entry-requires c κs =
+    let turn = in-loop (line_read (allowed c)) in
+    let w = turn.before in
+    let n = counts_facts _ _ _ w.loop.inv.3.counts in
+    entry_place w.loop.net w.loop.j _ (omega (arith, turn.loop-test.taken)) n.vertices n.edges _ (entry c)
 
 add-j : tie.Need-overflow-add-j invariant-loop decreases-loop
 add-j c = search rules
@@ -243,21 +166,19 @@ loop-less c = search rules
 
 loop-again : tie.Need-loop-preserved invariant-loop decreases-loop
 loop-again c =
-    let line = allowed c.before in
-    let turn = turn-of line in
+    let decoded = allowed c.before in
+    let turn = in-loop (line_read decoded) in
     let w = turn.before in
-    let Numbers-of = five (numbers line.before) in
-    let on = line-goes_on _ _ w.loop.at w.loop.j w.loop.net _ (width_is turn) _ Numbers-of _ (entry c.before) in
+    let on = line-goes_on _ _ w.loop.at w.loop.j w.loop.net _ (width_is turn) _ (five decoded) _ (entry c.before) in
+    let more = turn.loop-test.taken in
     let next-line = ap (λ (width : ℕ). w.loop.at + width) (width_is turn) in
-    rw (added c) (
+    rw c.with-entry.ensures (
       omega arith,
       next-line ∙ ap (λ (at : ℕ). at + line_bytes (start turn).args.columns) w.loop.inv.1 ∙ line_after _ w.loop.j,
       w.loop.inv.2 ∙ sym (counts_kept w.loop.net w.loop.j w.loop.inv.3 _ _ on),
       line-added w.loop.net w.loop.j w.loop.inv.3 _ _ (omega (arith, w.loop.inv.2)) on,
-      loop_next _ _ w.loop.at (start turn).args.count w.loop.j w.loop.net _ w.loop.inv.4 turn.loop-test.taken _
-          (line_steps _ _ w.loop.at w.loop.j w.loop.net _ (width_is turn) _ Numbers-of _ (entry c.before)) _ next-line,
-      w.loop.inv.5 ∙ vertices_kept w.loop.net w.loop.j c.before.before.decoded.given.0.0,
-      w.loop.inv.6 ∙ letters_kept w.loop.net w.loop.j c.before.before.decoded.given.0.0,
+      loop_next _ _ w.loop.at (start turn).args.count w.loop.j w.loop.net _ w.loop.inv.4 more _
+          (line_steps _ _ w.loop.at w.loop.j w.loop.net _ (width_is turn) _ (five decoded) _ (entry c.before)) _ next-line,
     )
 
 concluded-requires : tie.Need-concluded-requires invariant-loop decreases-loop
@@ -287,9 +208,6 @@ read-lines-spec =
     cast-refusal
     refusal-requires
     returns
-    named-place-requires
-    mul-role
-    element-copy-out-role
     decode-line-requires
     enum-known-decoded
     enum-told-2
@@ -298,14 +216,7 @@ read-lines-spec =
     cast-refusal-2
     refusal-requires-2
     returns-2
-    enum-known-entry
-    mul-vertex
-    element-set-from-vertex
-    enum-known-entry-2
-    cast-edge
-    sub-edge
-    mul-edge
-    element-set-from-edge
+    with-entry-requires
     add-j
     loop-less
     loop-again

@@ -5,14 +5,14 @@ use mathlib.Core.Path.{◌≡◌, refl}
 use mathlib.Core.Bool.{true, false}
 use mathlib.Core.Logic.{◌≢◌}
 use borrow.Author.Tests.{ne_eqb}
-use Rattle.output.specs.Output.{goes_on_lem}
+use Rattle.output.specs.Output.{goes_on}
 use Rattle.report_opening.proofs.goes_on.Statement.{statement}
 use Rattle.report_opening.proofs.goes_on.Tie as tie
 
-runs : (n m : ℕ) → n ≡ m → true ≡ goes_on_lem m → true ≡ goes_on_lem n
+runs : (n m : ℕ) → n ≡ m → true ≡ goes_on m → true ≡ goes_on n
 runs n m e same = rw e same
 
-ends : (n : ℕ) → n ≢ 0 → n ≢ 32 → n ≢ 33 → false ≡ goes_on_lem n
+ends : (n : ℕ) → n ≢ 0 → n ≢ 32 → n ≢ 33 → false ≡ goes_on n
 ends n a b c = rw (ne_eqb n 0 a, ne_eqb n 32 b, ne_eqb n 33 c)
 
 returns : tie.Need-returns

@@ -16,16 +16,16 @@ enum-told-3 : tie.Need-enum-told-3
 enum-told-3 c = search rules
 
 returns : tie.Need-returns
-returns c N count = rw c.enum_told.given.1
+returns c = search rules
 
 returns-2 : tie.Need-returns-2
-returns-2 c N count = rw (c.before.s.given.1, count)
+returns-2 c = rw c.before.before.s.given.1
 
 returns-3 : tie.Need-returns-3
-returns-3 c N count = rw c.enum-told2.given.1
+returns-3 c = search rules
 
 returns-4 : tie.Need-returns-4
-returns-4 c N count = rw c.enum-told3.given.1
+returns-4 c = search rules
 
 pub known-label-spec : {M : Type 1} → statement M
 known-label-spec =

@@ -19,18 +19,16 @@ enum-told-2 : tie.Need-enum-told-2
 enum-told-2 c = search rules
 
 returns : tie.Need-returns
-returns c N shows = rw c.enum_told.given.1
+returns c = search rules
 
 returns-2 : tie.Need-returns-2
-returns-2 c N shows = rw (c.before.s.given.1, shows.letter_count)
+returns-2 c = rw c.before.before.s.given.1
 
 returns-3 : tie.Need-returns-3
-returns-3 c N shows =
-    let vertex = c.before.before.s2.given.1 in
-    rw vertex (c.is-storage.ensures N shows.vertex_count (rw vertex at shows.named_role))
+returns-3 c = rw c.before.before.s2.given.1 c.is-storage.ensures
 
 returns-4 : tie.Need-returns-4
-returns-4 c N shows = rw c.enum-told2.given.1
+returns-4 c = search rules
 
 pub known-symbol-spec : {M : Type 1} → statement M
 known-symbol-spec =

@@ -13,13 +13,13 @@ known-label-requires : tie.Need-known-label-requires
 known-label-requires c κs = search rules
 
 returns : tie.Need-returns
-returns c N count = c.known-label.ensures N count ∙ input_vertex N _ _ c.before.decoded.ensures c.before.before.match.keys1
+returns c = c.known-label.ensures ∙ input_vertex _ _ _ c.before.decoded.ensures c.before.before.match.keys1
 
 returns-2 : tie.Need-returns-2
-returns-2 c N count = storage_vertex N _ c.before.before.match.rest.1 (omega arith)
+returns-2 c = storage_vertex _ _ c.before.before.match.rest.1 (omega arith)
 
 returns-3 : tie.Need-returns-3
-returns-3 c N count = unknown_role N _ (omega arith)
+returns-3 c = unknown_role _ _ (omega arith)
 
 pub vertex-ok-spec : {M : Type 1} → statement M
 vertex-ok-spec =

@@ -1,51 +1,59 @@
--- `settling::settle` meets its contract: the record and C1, then the passes. Assumes nothing.
-use mathlib.Core.Path.{ap, sym, ◌∙◌}
+-- `settling::settle` meets its contract: the record, then C1. Assumes nothing.
+use mathlib.Core.Path.{◌≡◌, sym, ◌∙◌}
+use mathlib.Core.Bool.{true}
 use borrow.Author.Rules.{rules}
-use Rattle.net.specs.declared.Net.{Net}
-use Rattle.records.proofs.SoundLaws.{Sound, sound_record}
-use Rattle.settlements.specs.Settle.{settle_of}
-use Rattle.settlements.proofs.SettleSteps.{unsound}
+use borrow.Author.Tests.{not-true, not-false}
+use Rattle.sheet.specs.Valid.{valid}
+use Rattle.troubles.proofs.FitLaws.{valid_fit}
+use Rattle.sheet.proofs.SearchLaws.{found_none}
+use Rattle.settlements.proofs.SettleSteps.{bad_record, breaks_c1}
 use Rattle.settling.proofs.settle.Statement.{statement}
 use Rattle.settling.proofs.settle.Tie as tie
 
--- places, each from a later one: the start, the buffers taken up, the record tested, its number 0, its tables taken, settled
+-- the start, before the lent buffers are taken up
 abbrev start : tie.After-slice-known2 → tie.Start
 start c = c.before.before
 
-abbrev buffers : tie.After-sound → tie.After-slice-known2
-buffers c = c.before.before
+-- the record has passed
+valid-record : (c : tie.Else1) → valid (start c.before.before).args.net ≡ true
+valid-record c = sym c.before.is-record.ensures ∙ not-false _ c.if1.false
 
-abbrev tested : tie.Else1 → tie.After-sound
-tested c = c.before.before
-
-abbrev number-0 : tie.After-tables2 → tie.Else1
-number-0 c = c.before.before.before
-
-abbrev tables-taken : tie.After-settle-arg2 → tie.After-tables2
-tables-taken c = c.before.before
-
-abbrev r_back : tie.After-slice-known4 → tie.After-slice-known3
-r_back c = c.before.before
-
-abbrev settled : tie.After-slice-known3 → tie.After-settle
-settled c = c.before.before
-
-sound : (c : tie.Else1) → Sound (start (buffers (tested c))).args.whole
-sound c = sound_record _ _ (tested c).sound.ensures.0 c.if1.false
-
-sound-requires : tie.Need-sound-requires
-sound-requires c κs = search rules
+is-record-requires : tie.Need-is-record-requires
+is-record-requires c κs = search rules
 
 refused-requires : tie.Need-refused-requires
 refused-requires c κs = search rules
 
 returns : tie.Need-returns
-returns c =
-    let t = c.before in
-    rw c.refused.ensures (unsound _ _ _ _ _ _ _ t.before.before.sound.ensures.0 t.if1.true)
+returns c = rw c.refused.ensures (bad_record _ _ _ _ _ _ (sym c.before.before.is-record.ensures ∙ not-true _ c.before.if1.true))
+
+lowest-break-requires : tie.Need-lowest-break-requires
+lowest-break-requires c κs = let h = valid_fit _ (valid-record c.before) in search rules
+
+enum-known-place : tie.Need-enum-known-place
+enum-known-place c = search rules
+
+refused-requires-2 : tie.Need-refused-requires-2
+refused-requires-2 c κs = search rules
+
+enum_told : tie.Need-enum-told
+enum_told c = search rules
 
 settle-requires : tie.Need-settle-requires
-settle-requires c κs = let s = sound (number-0 (tables-taken c)) in (s.fit, s.c1, s.told)
+settle-requires c κs =
+    let told = c.before.before.before in
+    let found = told.before.before in (
+      valid-record found.before.before,
+      found_none _ (sym found.lowest-break.ensures.0 ∙ told.enum_told.given.1),
+      found.lowest-break.ensures.1,
+    )
+
+returns-2 : tie.Need-returns-2
+returns-2 c =
+    let place = c.before.before in
+    let found = place.before.before in
+    rw c.refused2.ensures
+    (breaks_c1 _ _ _ _ _ _ (valid-record found.before.before) (sym found.lowest-break.ensures.0 ∙ place.place.given.1))
 
 same_length : tie.Need-same-length
 same_length c = search rules
@@ -53,12 +61,22 @@ same_length c = search rules
 same-length-2 : tie.Need-same-length-2
 same-length-2 c = search rules
 
-returns-2 : tie.Need-returns-2
-returns-2 c =
-    let s = settled (r_back c) in
-    let e = number-0 (tables-taken s.before) in
-    let a = (start (buffers (tested e))).args in
-    s.settle.ensures ∙ ap (λ (N : Net). settle_of N a.old a.new a.start a.r.now a.t.now) (sym (sound e).named)
+returns-3 : tie.Need-returns-3
+returns-3 c = search rules
 
 pub settle-spec : {M : Type 1} → statement M
-settle-spec = tie.close (tie.spec sound-requires refused-requires returns settle-requires same_length same-length-2 returns-2)
+settle-spec =
+    tie.close
+    (tie.spec
+    is-record-requires
+    refused-requires
+    returns
+    lowest-break-requires
+    enum-known-place
+    refused-requires-2
+    enum_told
+    settle-requires
+    returns-2
+    same_length
+    same-length-2
+    returns-3)

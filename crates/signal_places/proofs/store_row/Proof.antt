@@ -10,22 +10,15 @@ use Rattle.excitations.proofs.PlaceLaws.{row-counted, row_shared}
 use Rattle.signal_places.proofs.store_row.Statement.{statement}
 use Rattle.signal_places.proofs.store_row.Tie as tie
 
--- places, each from a later one: the start, from where x is another vertex and from where the flags are made
-abbrev start : tie.Then1 → tie.Start
-start c = c.before.before
-
-abbrev flags-start : tie.After-signal-flags → tie.Start
-flags-start c = c.before.before.before
-
 -- x is a lower vertex of y's component
 lower : (c : tie.Then1) → (let a = c.before.before.args in (c.before.lowest-member.result < a.y) × SameComponent a.net a.y c.before.lowest-member.result)
 lower c =
     let s = c.before.before in
     let x = c.before.lowest-member.ensures in
-    rw x (⊎_elim (λ q. absurd (c.if1.true (x ∙ q))) (λ m. m) (lowest_member_lem s.args.net s.requires.0 s.args.y s.requires.3 s.requires.2))
+    rw x (⊎_elim (λ q. absurd (c.if1.true (x ∙ q))) (λ m. m) (lowest_member_lem s.args.net s.requires.0 s.args.y s.requires.2 s.requires.1))
 
 lowest-member-requires : tie.Need-lowest-member-requires
-lowest-member-requires c κs = c.requires.3
+lowest-member-requires c κs = c.requires.2
 
 cast-copy-row : tie.Need-overflow-cast-copy-row
 cast-copy-row c = search rules
@@ -33,25 +26,24 @@ cast-copy-row c = search rules
 copy-row-requires : tie.Need-copy-row-requires
 copy-row-requires c κs =
     let s = c.before.before.before in
-    (s.requires.4, omega (arith, lower c.before), s.requires.3)
+    (s.requires.3, omega (arith, lower c.before), s.requires.2)
 
 returns : tie.Need-returns
 returns c =
-    let s = start c.before.before in
+    let s = c.before.before.before.before in
     let l = lower c.before.before in
-    c.copy-row.ensures ∙ row_shared s.args.net _ l.1 (λ k h. s.pre.5 _ k l.1.to l.0 h)
+    c.copy-row.ensures ∙ row_shared s.args.net _ l.1 (λ k h. s.requires.4 _ k l.1.to l.0 h)
 
 signal-flags-requires : tie.Need-signal-flags-requires
-signal-flags-requires c κs = let s = c.before.before in (s.requires.0, s.requires.1, s.requires.2)
+signal-flags-requires c κs = let s = c.before.before in (s.requires.0, s.requires.1)
 
 place-row-requires : tie.Need-place-row-requires
-place-row-requires c κs = let s = flags-start c.before.before in (s.pre.4, s.pre.3)
+place-row-requires c κs = let s = c.before.before.before.before.before in (s.requires.3, s.requires.2)
 
 returns-2 : tie.Need-returns-2
 returns-2 c =
-    let made = c.before.before.before in
-    let s = flags-start made in
-    c.place-row.ensures ∙ row-counted s.args.net s.args.y _ made.signal-flags.ensures
+    let s = c.before.before.before.before.before.before in
+    c.place-row.ensures ∙ row-counted s.args.net s.args.y _ c.before.before.before.signal-flags.ensures
 
 pub store-row-spec : {M : Type 1} → statement M
 store-row-spec =

@@ -5,10 +5,10 @@ use Rattle.verdict_cases.proofs.print_state.Statement.{statement}
 use Rattle.verdict_cases.proofs.print_state.Tie as tie
 
 abbrev invariant-loop : tie.invariant-loop
-invariant-loop whole input key count y₀ y = y ≤ count
+invariant-loop net input key count y₀ y = y ≤ count
 
 abbrev decreases-loop : tie.decreases-loop
-decreases-loop whole input key count y₀ y = count - y
+decreases-loop net input key count y₀ y = count - y
 
 cast-count : tie.Need-overflow-cast-count invariant-loop decreases-loop
 cast-count c = search rules

@@ -1,27 +1,33 @@
--- `write` meets its contract: the record is tested, then written in the agreed order.
-use mathlib.Core.Path.{sym, ap, ◌∙◌}
+-- `write` meets its contract: the record is tested, ordered and atFront.
+use native.Mathlib.Omega.{arith}
+use mathlib.Core.Path.{◌≡◌, sym, ap, subst, ◌∙◌}
+use mathlib.Core.Bool.{true}
 use borrow.Author.Rules.{rules}
 use borrow.Author.Tests.{not-true, not-false}
 use Rattle.net.specs.declared.Net.{Net}
-use Rattle.records.proofs.RecordLaws.{record_tested, Passed, passed}
-use Rattle.writer.specs.Write.{writing_of}
-use Rattle.writer.proofs.WriteLaws.{refused_record}
+use Rattle.sheet.specs.Limits.{field_width}
+use Rattle.sheet.specs.Writing.{write_in}
+use Rattle.sheet.specs.Valid.{valid}
+use Rattle.writer.specs.Agreed.{canonical_in}
+use Rattle.writer.specs.Fronts.{Sized, at_front}
+use Rattle.writer.proofs.AgreedLaws.{canonical-valid}
+use Rattle.writer.proofs.WriteLaws.{valid_sized, refused_record, front_record}
 use Rattle.writer_sheet.proofs.write.Statement.{statement}
 use Rattle.writer_sheet.proofs.write.Tie as tie
 
--- places, each from a later one: the start, past the test of the record, the sheet written
+-- places, each from a later one: the start, past the test of the record, the record ordered, the sheet atFront
 abbrev start : tie.After-is-record → tie.Start
 start c = c.before.before
 
-abbrev past-record : tie.After-write-tested → tie.Else1
-past-record c = c.before.before.before
+abbrev past-record : tie.After-ordered → tie.Else1
+past-record c = c.before
 
-abbrev written : tie.After-slice-known2 → tie.After-write-tested
-written c = c.before.before
+abbrev ordered : tie.After-put-front → tie.After-ordered
+ordered c = c.before.before
 
 -- what was tested is a record
-holds : (c : tie.Else1) → Passed (start c.before).args.whole
-holds c = passed _ (sym c.before.is-record.ensures ∙ not-false _ c.if1.false)
+is-valid : (c : tie.Else1) → valid (start c.before).args.net ≡ true
+is-valid c = sym c.before.is-record.ensures ∙ not-false _ c.if1.false
 
 is-record-requires : tie.Need-is-record-requires
 is-record-requires c κs = search rules
@@ -32,20 +38,32 @@ bad-record-requires c κs = search rules
 returns : tie.Need-returns
 returns c =
     let t = c.before in
+    let s = start t.before in
     rw (c.bad-record.ensures.0, c.bad-record.ensures.1)
-    (refused_record _ _ (start t.before).args.buffer.now (record_tested _ ∙ sym t.before.is-record.ensures ∙ not-true _ t.if1.true))
+    (refused_record s.args.net _ s.args.buffer.now (sym t.before.is-record.ensures ∙ not-true _ t.if1.true))
 
-write-tested-requires : tie.Need-write-tested-requires
-write-tested-requires c κs = (holds c.before.before).fit
+ordered-requires : tie.Need-ordered-requires
+ordered-requires c κs = let z = valid_sized _ (is-valid c) in (z.edges, z.edge_places)
+
+put-front-requires : tie.Need-put-front-requires
+put-front-requires c κs =
+    let o = c.before in
+    (subst Sized (sym o.ordered.ensures) (valid_sized _ (canonical-valid _ (is-valid (past-record o)))), omega arith)
 
 same_length : tie.Need-same-length
 same_length c = search rules
 
 returns-2 : tie.Need-returns-2
+unfolding canonical_in
 returns-2 c =
-    let w = written c in
-    let e = past-record w in
-    w.write-tested.ensures ∙ ap (λ (N : Net). writing_of N (start e.before).args.buffer.now) (sym (holds e).named)
+    let p = c.before.before in
+    let o = ordered p in
+    let s = start (past-record o).before in
+    p.put_front.ensures
+    ∙ ap (λ (N : Net). at_front (write_in field_width N) s.args.buffer.now) o.ordered.ensures
+    ∙ front_record s.args.net _ s.args.buffer.now (is-valid (past-record o))
 
 pub write_spec : {M : Type 1} → statement M
-write_spec = tie.close (tie.spec is-record-requires bad-record-requires returns write-tested-requires same_length returns-2)
+write_spec =
+    tie.close
+    (tie.spec is-record-requires bad-record-requires returns ordered-requires put-front-requires same_length returns-2)

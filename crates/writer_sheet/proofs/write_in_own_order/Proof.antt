@@ -1,27 +1,24 @@
--- `write_in_own_order` meets its contract: the record is tested, then written as it stands.
-use mathlib.Core.Path.{sym, ap, ◌∙◌}
+-- `write_in_own_order` meets its contract: the record is tested and atFront.
+use native.Mathlib.Omega.{arith}
+use mathlib.Core.Path.{◌≡◌, sym, ◌∙◌}
+use mathlib.Core.Bool.{true}
 use borrow.Author.Rules.{rules}
 use borrow.Author.Tests.{not-true, not-false}
-use Rattle.net.specs.declared.Net.{Net}
-use Rattle.records.proofs.RecordLaws.{record_tested, Passed, passed}
-use Rattle.writer.specs.Write.{own_writing_of}
-use Rattle.writer.proofs.WriteLaws.{refused_record}
+use Rattle.sheet.specs.Valid.{valid}
+use Rattle.writer.proofs.WriteLaws.{valid_sized, refused_record, front_record}
 use Rattle.writer_sheet.proofs.write_in_own_order.Statement.{statement}
 use Rattle.writer_sheet.proofs.write_in_own_order.Tie as tie
 
--- places, each from a later one: the start, past the test of the record, the sheet written
+-- places, each from a later one: the start, past the test of the record
 abbrev start : tie.After-is-record → tie.Start
 start c = c.before.before
 
-abbrev past-record : tie.After-write-tested-in-own-order → tie.Else1
-past-record c = c.before.before.before
-
-abbrev written : tie.After-slice-known2 → tie.After-write-tested-in-own-order
-written c = c.before.before
+abbrev past-record : tie.After-put-front → tie.Else1
+past-record c = c.before.before
 
 -- what was tested is a record
-holds : (c : tie.Else1) → Passed (start c.before).args.drawn
-holds c = passed _ (sym c.before.is-record.ensures ∙ not-false _ c.if1.false)
+is-valid : (c : tie.Else1) → valid (start c.before).args.net ≡ true
+is-valid c = sym c.before.is-record.ensures ∙ not-false _ c.if1.false
 
 is-record-requires : tie.Need-is-record-requires
 is-record-requires c κs = search rules
@@ -32,20 +29,23 @@ bad-record-requires c κs = search rules
 returns : tie.Need-returns
 returns c =
     let t = c.before in
+    let s = start t.before in
     rw (c.bad-record.ensures.0, c.bad-record.ensures.1)
-    (refused_record _ _ (start t.before).args.buffer.now (record_tested _ ∙ sym t.before.is-record.ensures ∙ not-true _ t.if1.true))
+    (refused_record s.args.net _ s.args.buffer.now (sym t.before.is-record.ensures ∙ not-true _ t.if1.true))
 
-write-tested-in-own-order-requires : tie.Need-write-tested-in-own-order-requires
-write-tested-in-own-order-requires c κs = (holds c.before.before).fit
+put-front-requires : tie.Need-put-front-requires
+put-front-requires c κs = (valid_sized _ (is-valid c.before), omega arith)
 
 same_length : tie.Need-same-length
 same_length c = search rules
 
 returns-2 : tie.Need-returns-2
 returns-2 c =
-    let w = written c in
-    let e = past-record w in
-    w.write-tested-in-own-order.ensures ∙ ap (λ (N : Net). own_writing_of N (start e.before).args.buffer.now) (sym (holds e).named)
+    let p = c.before.before in
+    let s = start (past-record p).before in
+    p.put_front.ensures ∙ front_record s.args.net _ s.args.buffer.now (is-valid (past-record p))
 
 pub write-in-own-order-spec : {M : Type 1} → statement M
-write-in-own-order-spec = tie.close (tie.spec is-record-requires bad-record-requires returns write-tested-in-own-order-requires same_length returns-2)
+write-in-own-order-spec =
+    tie.close
+    (tie.spec is-record-requires bad-record-requires returns put-front-requires same_length returns-2)

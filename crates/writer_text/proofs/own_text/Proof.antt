@@ -11,10 +11,10 @@ use Rattle.writer_text.proofs.own_text.Tie as tie
 abbrev start : tie.After-answer → tie.Start
 start c = c.before.before
 
-abbrev accepted : tie.After-write-tested-in-own-order → tie.Then1
+abbrev accepted : tie.After-write-in-own-order → tie.Then1
 accepted c = c.before.before.before
 
-abbrev sheet-written : tie.After-slice-known2 → tie.After-write-tested-in-own-order
+abbrev sheet-written : tie.After-slice-known2 → tie.After-write-in-own-order
 sheet-written c = c.before.before
 
 abbrev refused : tie.After-refusal-text → tie.Else1
@@ -23,8 +23,8 @@ refused c = c.before.before
 abbrev line-written : tie.After-slice-known3 → tie.After-refusal-text
 line-written c = c.before.before
 
-write-tested-in-own-order-requires : tie.Need-write-tested-in-own-order-requires
-write-tested-in-own-order-requires c κs = let yes = c.before.before in (start yes.before).requires.0 yes.if1.true
+write-in-own-order-requires : tie.Need-write-in-own-order-requires
+write-in-own-order-requires c κs = search rules
 
 same_length : tie.Need-same-length
 same_length c = search rules
@@ -35,7 +35,7 @@ returns c =
     let yes = accepted written in
     let s = start yes.before in
     let v = s.pre.0 yes.if1.taken in
-    text-written write_sheet s.args.reading s.args.out.now s.pre.1 yes.if1.taken v (own-fits field_width _ v) written.write-tested-in-own-order.ensures
+    text-written write_sheet s.args.reading s.args.out.now s.pre.1 yes.if1.taken v (own-fits field_width _ v) written.write-in-own-order.ensures
 
 refusal-text-requires : tie.Need-refusal-text-requires
 refusal-text-requires c κs = search rules
@@ -54,7 +54,7 @@ pub own-text-spec : {M : Type 1} → statement M
 own-text-spec =
     tie.close
     (tie.spec
-    write-tested-in-own-order-requires
+    write-in-own-order-requires
     same_length
     returns
     refusal-text-requires

@@ -2,7 +2,6 @@
 use native.Mathlib.Omega.{arith}
 use borrow.Author.Rules.{rules}
 use Rattle.writer_text.proofs.TextLaws.{text_short, net-refused, net-written}
-use Rattle.sheet.proofs.Outcome.{valid-at_zero}
 use Rattle.writer_text.proofs.text.Statement.{statement}
 use Rattle.writer_text.proofs.text.Tie as tie
 
@@ -19,10 +18,10 @@ line-written c = c.before.before
 abbrev refused : tie.After-refusal-text → tie.Then2
 refused c = c.before.before
 
-abbrev sheet-written : tie.After-slice-known3 → tie.After-write-tested
+abbrev sheet-written : tie.After-slice-known3 → tie.After-write
 sheet-written c = c.before.before
 
-abbrev accepted : tie.After-write-tested → tie.Else2
+abbrev accepted : tie.After-write → tie.Else2
 accepted c = c.before.before.before
 
 returns : tie.Need-returns
@@ -44,10 +43,8 @@ returns-2 c =
     let read = sheet-read no.before in
     net-refused _ (start read.before).args.out.now read.read.ensures no.if2.taken line.refusal-text.ensures
 
-write-tested-requires : tie.Need-write-tested-requires
-write-tested-requires c κs =
-    let yes = c.before.before in
-    valid-at_zero _ _ _ (sheet-read yes.before).read.ensures yes.if2.false
+write-requires : tie.Need-write-requires
+write-requires c κs = search rules
 
 same-length-2 : tie.Need-same-length-2
 same-length-2 c = search rules
@@ -57,7 +54,7 @@ returns-3 c =
     let written = sheet-written c in
     let yes = accepted written in
     let read = sheet-read yes.before in
-    net-written _ (start read.before).args.out.now read.read.ensures (omega arith) yes.if2.left written.write-tested.ensures
+    net-written _ (start read.before).args.out.now read.read.ensures (omega arith) yes.if2.left written.write.ensures
 
 pub text-spec : {M : Type 1} → statement M
 text-spec =
@@ -68,6 +65,6 @@ text-spec =
     refusal-text-requires
     same_length
     returns-2
-    write-tested-requires
+    write-requires
     same-length-2
     returns-3)

@@ -7,38 +7,29 @@ use Rattle.sheet.proofs.OverSignalLaws.{flag_set, not_over, over_count, joined_n
 use Rattle.graph_rows.proofs.components.over_signals.Statement.{statement}
 use Rattle.graph_rows.proofs.components.over_signals.Tie as tie
 
--- places, each from a later one: the start, past the test of the flag
-abbrev start : tie.Else1 → tie.Start
-start c = c.before.before
-
-abbrev past-flag : tie.Else2 → tie.Else1
-past-flag c = c.before.before
-
 element-copy-out-if1 : tie.Need-element-copy-out-if1
 element-copy-out-if1 c = search rules
 
 returns : tie.Need-returns
-returns c = let s = c.before.before in not_over s.args.net s.requires.0 s.args.y s.requires.2 c.if1.true
+returns c = let s = c.before.before in not_over s.args.net s.requires.0 s.args.y s.requires.1 c.if1.true
 
 lowest-member-requires : tie.Need-lowest-member-requires
-lowest-member-requires c κs = (start c).requires.2
+lowest-member-requires c κs = c.before.before.requires.1
 
 returns-2 : tie.Need-returns-2
 returns-2 c =
-    let flag = c.before.before in
-    let s = start flag in
-    joined_not_over s.args.net s.pre.0 s.args.y s.pre.2 s.pre.3 flag.if1.false (λ e. c.if2.true (c.before.lowest-member.ensures ∙ e))
+    let s = c.before.before.before.before in
+    joined_not_over s.args.net s.requires.0 s.args.y s.requires.1 s.requires.2 c.before.before.if1.false (λ e. c.if2.true (c.before.lowest-member.ensures ∙ e))
 
 signal-count-requires : tie.Need-signal-count-requires
 signal-count-requires c κs =
-    let s = start (past-flag c) in
-    (s.pre.0, s.pre.1, flag_set s.args.net s.pre.0 s.args.y s.pre.2 (past-flag c).if1.false)
+    let s = c.before.before.before.before in
+    (s.requires.0, flag_set s.args.net s.requires.0 s.args.y s.requires.1 c.before.before.if1.false)
 
 returns-3 : tie.Need-returns-3
 returns-3 c =
-    let flag = past-flag c.before in
-    let s = start flag in
-    ap (ltb most_signals) c.signal-count.ensures ∙ over_count s.args.net s.pre.0 s.args.y s.pre.2 flag.if1.left
+    let s = c.before.before.before.before.before in
+    ap (ltb most_signals) c.signal-count.ensures ∙ over_count s.args.net s.requires.0 s.args.y s.requires.1 c.before.before.before.if1.false
 
 pub over-signals-spec : {M : Type 1} → statement M
 over-signals-spec =

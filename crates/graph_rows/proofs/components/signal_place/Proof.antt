@@ -12,20 +12,20 @@ use Rattle.graph_rows.proofs.components.signal_place.Statement.{statement}
 use Rattle.graph_rows.proofs.components.signal_place.Tie as tie
 
 abbrev invariant-loop : tie.invariant-loop
-invariant-loop net storage labels inputs last y₀ y = (y ≤ last + 1) × (least_below y (over_signals net) ≡ none)
+invariant-loop net storage labels last y₀ y = (y ≤ last + 1) × (least_below y (over_signals net) ≡ none)
 
 abbrev decreases-loop : tie.decreases-loop
-decreases-loop net storage labels inputs last y₀ y = last + 1 - y
+decreases-loop net storage labels last y₀ y = last + 1 - y
 
 loop-holds : tie.Need-loop-init invariant-loop decreases-loop
 unfolding least_below
 loop-holds c = (search rules, λ _. none)
 
 over-signals-requires : tie.Need-over-signals-requires invariant-loop decreases-loop
-over-signals-requires c κs = let s = c.before.before in (s.requires.0, s.requires.1, omega (arith, s.requires.0.readable.vertices), c.before.loop.invariant.1)
+over-signals-requires c κs = let s = c.before.before in (s.requires, omega (arith, s.requires.readable.vertices), c.before.loop.invariant.1)
 
-cast-t9 : tie.Need-overflow-cast-t9 invariant-loop decreases-loop
-cast-t9 c = search rules
+cast-t8 : tie.Need-overflow-cast-t8 invariant-loop decreases-loop
+cast-t8 c = search rules
 
 returns : tie.Need-returns invariant-loop decreases-loop
 returns c =
@@ -34,7 +34,7 @@ returns c =
     (least_hit (over_signals _) _ w.loop.y w.loop.invariant.1 (omega (arith, c.before.before.loop-test.true)) (sym c.before.over-signals.ensures ∙ c.if1.true))
 
 add-y : tie.Need-overflow-add-y invariant-loop decreases-loop
-add-y c = let w = c.before.before.before in omega (arith, w.before.requires.0.readable.vertices)
+add-y c = let w = c.before.before.before in omega (arith, w.before.requires.readable.vertices)
 
 loop-less : tie.Need-loop-smaller invariant-loop decreases-loop
 loop-less c = search rules
@@ -58,7 +58,7 @@ signal-place-spec =
     decreases-loop
     loop-holds
     over-signals-requires
-    cast-t9
+    cast-t8
     returns
     add-y
     loop-less

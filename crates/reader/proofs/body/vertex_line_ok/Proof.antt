@@ -1,6 +1,5 @@
 -- `vertex_line_ok` meets its contract: a number above what a record holds is in no range.
 use native.Mathlib.Omega.{arith}
-use mathlib.Core.Path.{◌∙◌}
 use borrow.Author.Rules.{rules}
 use Rattle.sheet.proofs.BodySteps.{no_vertex-line, other-number, other_fifth, no_role, no_label, vertex_line_lem}
 use Rattle.reader.proofs.body.vertex_line_ok.Statement.{statement}
@@ -23,10 +22,10 @@ abbrev past-kind : tie.Else2 → tie.Else1
 past-kind c = c.before.before
 
 returns : tie.Need-returns
-returns c N letters = no_vertex-line N _ _ c.if1.true
+returns c = no_vertex-line _ _ _ c.if1.true
 
 returns-2 : tie.Need-returns-2
-returns-2 c N letters = other-number N _ _ (λ e. omega (arith, c.if2.true))
+returns-2 c = other-number _ _ _ (λ e. omega (arith, c.if2.true))
 
 sub-before : tie.Need-overflow-sub-before
 sub-before c = search rules
@@ -35,16 +34,16 @@ cast-before : tie.Need-overflow-cast-before
 cast-before c = search rules
 
 returns-3 : tie.Need-returns-3
-returns-3 c N letters = other-number N _ _ (λ e. c.if3.true (omega arith))
+returns-3 c = other-number _ _ _ (λ e. c.if3.true (omega arith))
 
 returns-4 : tie.Need-returns-4
-returns-4 c N letters = other_fifth N _ _ c.if4.true
+returns-4 c = other_fifth _ _ _ c.if4.true
 
 returns-5 : tie.Need-returns-5
-returns-5 c N letters = no_role N _ _ (omega arith)
+returns-5 c = no_role _ _ _ (omega arith)
 
 returns-6 : tie.Need-returns-6
-returns-6 c N letters = no_label N _ _ (omega arith)
+returns-6 c = no_label _ _ _ (omega arith)
 
 vertex-of-requires : tie.Need-vertex-of-requires
 vertex-of-requires c κs = search rules
@@ -53,13 +52,12 @@ vertex-ok-requires : tie.Need-vertex-ok-requires
 vertex-ok-requires c κs = search rules
 
 returns-7 : tie.Need-returns-7
-returns-7 c N letters =
+returns-7 c =
     let last = past-fifth (past-role c.before.before) in
     let number = past-number last in
     let positive = past-zero number in
-    c.vertex-ok.ensures N letters
-    ∙ rw c.before.vertex-of.ensures
-    (vertex_line_lem N _ _ (past-kind positive).if1.left (omega (arith, number.if3.left, positive.if2.left)) last.if4.left)
+    rw (c.vertex-ok.ensures, c.before.vertex-of.ensures)
+    (vertex_line_lem _ _ _ (past-kind positive).if1.left (omega (arith, number.if3.left, positive.if2.left)) last.if4.left)
 
 pub vertex-line-ok-spec : {M : Type 1} → statement M
 vertex-line-ok-spec =

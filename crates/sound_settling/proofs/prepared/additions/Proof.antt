@@ -1,33 +1,45 @@
 -- `prepared::additions` meets its contract. Assumes nothing.
-use mathlib.Core.Path.{refl}
+use borrow.Author.Rules.{rules}
+use Rattle.net.proofs.TableLaws.{prepared}
 use Rattle.sound_settling.proofs.prepared.additions.Statement.{statement}
 use Rattle.sound_settling.proofs.prepared.additions.Tie as tie
 
--- places of the run, each found from the next: the empty tables, then the tables that have been filled, which are lent
-abbrev start : tie.After-labels → tie.Start
-start c = c.before.before
+storage-flags-requires : tie.Need-storage-flags-requires
+storage-flags-requires c κs = search rules
 
-abbrev empty : tie.After-keys → tie.After-labels
-empty c = c.before.before
+component-labels-requires : tie.Need-component-labels-requires
+component-labels-requires c κs = search rules
 
-abbrev filled : tie.After-places2 → tie.After-fill
-filled c = c.before.before.before
+signal-places-requires : tie.Need-signal-places-requires
+signal-places-requires c κs =
+    prepared _ c.before.before.before.before.before.requires.readable
+    c.before.before.before.before.storage-flags.ensures
+    c.before.before.component-labels.ensures
 
-fill-requires : tie.Need-fill-requires
-fill-requires c κs = ((start (empty c)).requires, refl)
+key-vertices-requires : tie.Need-key-vertices-requires
+key-vertices-requires c κs = search rules
 
 additions-requires : tie.Need-additions-requires
 additions-requires c κs =
-    let f = filled c.before in
-    let made = f.fill.ensures in ((start (empty f.before)).requires, made.tables, made.placed, made.listed)
+    let p = c.before.before.before.before in
+    let l = p.before.before.before.before in
+    let s = l.before.before.before in (
+      s.requires,
+      prepared _ s.requires.readable l.before.before.storage-flags.ensures l.component-labels.ensures,
+      p.before.signal-places.ensures,
+      p.key-vertices.ensures,
+    )
 
 returns : tie.Need-returns
-returns c = c.additions.ensures
+returns c = search rules
 
 pub additions-spec : {M : Type 1} → statement M
 additions-spec =
     tie.close
     (tie.spec
-    fill-requires
+    storage-flags-requires
+    component-labels-requires
+    signal-places-requires
+    key-vertices-requires
     additions-requires
     returns)

@@ -1,4 +1,0 @@
-pub mod Tables
-pub mod Records
-pub mod Sound
-pub mod Lent
