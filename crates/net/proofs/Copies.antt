@@ -29,10 +29,10 @@ module _ (M N : Net) (φ : ℕ → ℕ) where
       walk_back {x = x} su e (edge l) =
           let r = kept.back su (subst (λ (z : ℕ). Link N onN z x) (sym e) l) in
           (r.0, r.1, edge r.2)
-      walk_back su e (via {w = w} l s p) =
+      walk_back {u = u} su e (via {w = w} l s p) =
           let r = kept.back su (subst (λ (z : ℕ). Link N onN z w) (sym e) l) in
           let sv : is_storage M r.0 ≡ true = sym (storage r.0) ∙ rw r.1 s in
-          let t = walk_back sv r.1 p in
+          let t = walk_back {u = r.0} sv r.1 p in
           (t.0, t.1, via r.2 sv t.2)
 
     -- a state of each under which the same edges may be used and input vertices have the same values
