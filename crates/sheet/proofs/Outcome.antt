@@ -20,7 +20,7 @@ use Rattle.sheet.specs.Rules.{header_ok}
 use Rattle.sheet.specs.Reading.{vertex_line_ok, edge_line_ok, size_ok, read_in}
 use Rattle.sheet.specs.SheetRows.{line_at, is_missing, numbers_of, in_turn, header, vertex_count_of, edge_count_of, net_in, vertex_rows, edge_rows, rows_in}
 use Rattle.sheet.specs.Outcome.{Listed, Outcome}
-use Rattle.sheet.specs.Outcome.Listed.{size, fields, header_line_lem, lines, vertex_line_lem, edge_line_lem, partner, too_many_key_nodes, signals}
+use Rattle.sheet.specs.Outcome.Listed.{size, fields, at_header_line, lines, at_vertex_line, at_edge_line, partner, at_key_node, signals}
 use Rattle.sheet.specs.Outcome.Outcome.{accept, refuse}
 use Rattle.sheet.specs.Valid.{valid}
 use Rattle.sheet.proofs.RowLaws.{RowsAnswer, nothing, found, rows-answer, first-append, not_held, held_at}
@@ -37,6 +37,7 @@ line_listed : (q m : ℕ) (missing allowed : Bool) → Listed 12 q → Listed m 
     → {n p : ℕ} → First (row 12 (when_at q missing) ∷ row m (when_at q (not allowed)) ∷ []) n p → Listed n p
 line_listed q m missing allowed a c (here e) = subst (Listed 12) (sym (held_at q missing e)) a
 line_listed q m missing allowed a c (later _ (here e)) = subst (Listed m) (sym (held_at q (not allowed) e)) c
+line_listed q m missing allowed a c (later _ (later _ none)) = elim none [ ]
 
 module _ (w : ℕ) (b : List ℕ) where
   module _ (c : Counts (vertex_count_of w b) (edge_count_of w b) (header w b).fourth) where
@@ -45,7 +46,7 @@ module _ (w : ℕ) (b : List ℕ) where
     vertex_listed j h f =
         let few = c.vertices in
         line_listed (suc (1 + j)) 15 (is_missing (line_at w b (1 + j))) (vertex_line_ok (net_in w b) j (numbers_of (line_at w b (1 + j))))
-        (fields _ (omega arith) (omega arith)) (vertex_line_lem _ (omega arith) (omega arith)) f
+        (fields _ (omega arith) (omega arith)) (at_vertex_line _ (omega arith) (omega arith)) f
 
     edge_listed : (i : ℕ) → i < edge_count_of w b → {n p : ℕ} → First (edge_rows w b i) n p → Listed n p
     unfolding edge_rows
@@ -54,15 +55,16 @@ module _ (w : ℕ) (b : List ℕ) where
         let few_edges = c.edges in
         let n = 1 + vertex_count_of w b + i in
         line_listed (suc n) 16 (is_missing (line_at w b n)) (edge_line_ok (net_in w b) (numbers_of (line_at w b n)))
-        (fields _ (omega arith) (omega arith)) (edge_line_lem _ (omega arith) (omega arith)) f
+        (fields _ (omega arith) (omega arith)) (at_edge_line _ (omega arith) (omega arith)) f
 
     graph_listed : {n p : ℕ} → First (graph_rows (net_in w b)) n p → Listed n p
     unfolding graph_rows net_in
     graph_listed (here {p = p} h) =
         let f = (partner_some (net_in w b) p).0 h in
         partner p (omega (arith, f.line)) (omega (arith, f.line, f.below, c.vertices, c.edges))
-    graph_listed (later _ (here {p = p} h)) = let v = key_vertex_lem (net_in w b) p h in too_many_key_nodes p v.low (omega (arith, v.high, c.vertices))
+    graph_listed (later _ (here {p = p} h)) = let v = key_vertex_lem (net_in w b) p h in at_key_node p v.low (omega (arith, v.high, c.vertices))
     graph_listed (later _ (later _ (here {p = p} h))) = let v = signal_vertex (net_in w b) p h in signals p v.low (omega (arith, v.high, c.vertices))
+    graph_listed (later _ (later _ (later _ none))) = elim none [ ]
 
     body_listed : {n p : ℕ} → First (in_turn (vertex_count_of w b) 0 (vertex_rows w b) ++ (in_turn (edge_count_of w b) 0 (edge_rows w b) ++ graph_rows (net_in w b))) n p → Listed n p
     body_listed f = go (first-append (in_turn (vertex_count_of w b) 0 (vertex_rows w b)) _ f)
@@ -79,7 +81,7 @@ module _ (w : ℕ) (b : List ℕ) where
   unfolding rows_in
   listed (here e) = subst (Listed 11) (sym (held_at 0 (not (size_ok w (length b))) e)) size
   listed (later _ (here e)) = subst (Listed 12) (sym (held_at 1 (is_missing (line_at w b 0)) e)) (fields 1 (omega arith) (omega arith))
-  listed (later _ (later _ (here e))) = subst (Listed 13) (sym (held_at 1 (not (header_ok (header w b))) e)) header_line_lem
+  listed (later _ (later _ (here e))) = subst (Listed 13) (sym (held_at 1 (not (header_ok (header w b))) e)) at_header_line
   listed (later _ (later _ (later _ (here e)))) = subst (Listed 14) (sym (held_at 0 (not (eqb (length b / line_bytes w) (1 + vertex_count_of w b + edge_count_of w b))) e)) lines
   listed (later _ (later _ (later ok (later _ rest)))) =
       body_listed (header_counts (header w b) (not-false (header_ok (header w b)) (not_held 1 (not (header_ok (header w b))) ok))) rest

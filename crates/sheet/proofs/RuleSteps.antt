@@ -2,7 +2,7 @@
 use Prim.Native.Nat.{ℕ, zero, suc, ◌-◌, ◌≤◌, ◌<◌}
 use native.Mathlib.Omega.{arith}
 use mathlib.Core.Path.{◌≡◌, refl, sym}
-use mathlib.Core.Bool.{Bool, true, false, not, ◌&&◌, ◌||◌, and-true, and_false}
+use mathlib.Core.Bool.{Bool, true, false, not, ◌&&◌, ◌||◌, and-true, and-false}
 use lib.Dec.{leb, eqb}
 use lib.ListN.{length, get_or, get_or-eq_default}
 use borrow.Author.Tests.{eq-eqb, ne_eqb, le-leb, lt-leb}
@@ -52,7 +52,7 @@ module _ (N : Net) (v : ℕ) where
   pub storage_beyond : length N.vertices ≡ most_vertices → most_vertices ≤ v - 1 → false ≡ is_storage N v
   unfolding is_storage has_role vertex_at
   storage_beyond size h =
-      rw (get_or-eq_default N.vertices no_vertex {n = v - 1} (omega arith), and_false)
+      rw (get_or-eq_default N.vertices no_vertex {n = v - 1} (omega arith), and-false)
 
   module _ (here : within 1 N.vertex_count v ≡ true) (r : ℕ) (is : r ≡ (get_or N.vertices (v - 1) no_vertex).role) where
     pub storage_role : 1 ≤ r → r < 3 → true ≡ is_storage N v
@@ -99,7 +99,7 @@ module _ (N : Net) (e : Edge) (s : Symbol) (is : s ≡ decode e.symbol) where
 
   pub primed_constant : Primed ≡ form_of e.form → is_variable s ≡ false → false ≡ (leb e.form 3 && symbol_ok N e)
   unfolding symbol_by
-  primed_constant h v = rw (tests, ← h, v) (sym (and_false (known_symbol N s)))
+  primed_constant h v = rw (tests, ← h, v) (sym (and-false (known_symbol N s)))
 
   pub unknown_form : Unknown ≡ form_of e.form → false ≡ (leb e.form 3 && symbol_ok N e)
   unfolding symbol_by

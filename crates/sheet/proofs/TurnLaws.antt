@@ -29,6 +29,7 @@ each_turn m f r k h = rw (zero-add k) at (turn_none m 0 f r k h)
 -- one holds: the first is some thing's
 turn_first : (m i : ℕ) (f : ℕ → List Row) {n p : ℕ} → First (in_turn m i f) n p → (k : ℕ) × (k < m) × First (f (i + k)) n p
 unfolding in_turn
+turn_first zero i f r = elim r [ ]
 turn_first (suc m) i f r = go (λ g. turn_first m (suc i) f g) (first-append (f i) (in_turn m (suc i) f) r)
   where
     go : {n p : ℕ} → (First (in_turn m (suc i) f) n p → (k : ℕ) × (k < m) × First (f (suc i + k)) n p)

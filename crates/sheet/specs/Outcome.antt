@@ -12,12 +12,12 @@ use Rattle.sheet.specs.Record.{refused, accepted}
 pub data Listed : ℕ → ℕ → Type 0 where
   size : Listed 11 0
   fields : (line : ℕ) → 1 ≤ line → line ≤ most_lines → Listed 12 line
-  header_line_lem : Listed 13 1
+  at_header_line : Listed 13 1
   lines : Listed 14 0
-  vertex_line_lem : (line : ℕ) → 2 ≤ line → line ≤ most_lines → Listed 15 line
-  edge_line_lem : (line : ℕ) → 2 ≤ line → line ≤ most_lines → Listed 16 line
+  at_vertex_line : (line : ℕ) → 2 ≤ line → line ≤ most_lines → Listed 15 line
+  at_edge_line : (line : ℕ) → 2 ≤ line → line ≤ most_lines → Listed 16 line
   partner : (line : ℕ) → 2 ≤ line → line ≤ most_lines → Listed 21 line
-  too_many_key_nodes : (y : ℕ) → 1 ≤ y → y ≤ most_vertices → Listed 22 y
+  at_key_node : (y : ℕ) → 1 ≤ y → y ≤ most_vertices → Listed 22 y
   signals : (y : ℕ) → 1 ≤ y → y ≤ most_vertices → Listed 23 y
 
 pub data Outcome : Reading → Type 0 where

@@ -143,7 +143,7 @@ module _ (N : Net) where
       record {
         vertices = refl;
         vertex_count = refl;
-        edge-count = refl;
+        edge_count = refl;
         letter_count = refl;
         edges = rw edges_canonical (onward (permuted_redrawn ordered_permuted) (redrawn_back (each_low (edges_of N))));
       }
@@ -220,8 +220,8 @@ module _ (M N : Net) where
   canonical_one vm vn s =
       let edges : ordered_edges M ++ drop M.edge_count M.edges ≡ ordered_edges N ++ drop N.edge_count N.edges =
       ap₂ {C = List Edge} (λ l r. l ++ r) (ordered_one s)
-      (unused_zero M ((valid_iff M).0 vm) ∙ ap (λ (n : ℕ). replicate (most_edges - n) no_edge) s.edge-count ∙ sym (unused_zero N ((valid_iff N).0 vn))) in
-      λ i. record { vertices = s.vertices i; edges = edges i; vertex_count = s.vertex_count i; edge_count = s.edge-count i; letter_count = s.letter_count i }
+      (unused_zero M ((valid_iff M).0 vm) ∙ ap (λ (n : ℕ). replicate (most_edges - n) no_edge) s.edge_count ∙ sym (unused_zero N ((valid_iff N).0 vn))) in
+      λ i. record { vertices = s.vertices i; edges = edges i; vertex_count = s.vertex_count i; edge_count = s.edge_count i; letter_count = s.letter_count i }
 
   -- the same net, from the same record in the agreed order
   canonical-back : canonical M ≡ canonical N → SameNet M N
