@@ -7,7 +7,7 @@ ghost use Rattle.cases.specs.Input.{part_of, number_at, data_of, next_of};
 
 use sheet::{Field, Sheet};
 
-#[derive(Drop)]
+#[derive(Clone, Copy)]
 pub struct Input;
 
 impl Input {
@@ -16,7 +16,7 @@ impl Input {
 }
 
 // Where the parts of a case stand, counted from its kind, which is one byte: five numbers, the size of its data, its data.
-#[derive(Drop)]
+#[derive(Clone, Copy)]
 pub struct Case;
 
 impl Case {

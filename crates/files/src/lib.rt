@@ -10,7 +10,7 @@ use libc::STDOUT_FILENO;
 const MOST_TRIES: u32 = 1000;
 
 // What one read answers: so many bytes, none at the end of the file; or why there are none.
-#[derive(Drop)]
+#[derive(Clone, Copy)]
 enum Got {
     Bytes(usize),
     Interrupted,

@@ -7,7 +7,7 @@ ghost use Rattle.gates.specs.Limits.{gate_limits};
 use sheet::Sheet;
 
 // A gate by the numbers of its symbols.
-#[derive(Drop)]
+#[derive(Clone, Copy)]
 pub enum Gate {
     Inverter(u16),
     Nand(u16, u16),
@@ -24,14 +24,14 @@ impl Gate {
 }
 
 // What the line of a gate is decoded to: the gate, or a value that is not allowed.
-#[derive(Drop)]
+#[derive(Clone, Copy)]
 pub enum GateRead {
     Gate(Gate),
     Refused,
 }
 
 // A header, and a line for each gate.
-#[derive(Drop)]
+#[derive(Clone, Copy)]
 pub struct GateSheet;
 
 impl GateSheet {
@@ -56,7 +56,7 @@ impl GateSheet {
 }
 
 // The limits as one value, to hold the constants to the definitions.
-#[derive(Drop)]
+#[derive(Clone, Copy)]
 pub struct GateLimits {
     pub columns: usize,
     pub line: usize,

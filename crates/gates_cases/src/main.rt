@@ -11,7 +11,7 @@ use sheet::{Answer, Reading, Sheet};
 use soundness::Excited;
 
 // The buffer that the text is written to.
-#[derive(Drop)]
+#[derive(Clone, Copy)]
 struct Lent;
 
 impl Lent {

@@ -2,7 +2,7 @@
 use net::Net;
 
 // What the two passes give by look-ups: is the start stable, and if it is, both last vectors and both step counts.
-#[derive(Drop)]
+#[derive(Clone, Copy)]
 pub struct Passes {
     pub stable: bool,
     pub first: [u8; Net::MOST_KEY_NODES],

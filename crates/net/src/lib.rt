@@ -7,7 +7,7 @@ ghost use Rattle.net.specs.Limits.{limits};
 use ternary::Signal;
 
 // A vertex by its numbers on the sheet. label: an input vertex's symbol.
-#[derive(Drop)]
+#[derive(Clone, Copy)]
 pub struct Vertex {
     pub role: u8,
     pub label: u16,
@@ -23,7 +23,7 @@ impl Vertex {
 }
 
 // An edge joins vertices end1 and end2. form: 0 to 3. symbol: a symbol's number.
-#[derive(Drop)]
+#[derive(Clone, Copy)]
 pub struct Edge {
     pub end1: u8,
     pub end2: u8,
@@ -32,7 +32,7 @@ pub struct Edge {
 }
 
 // Vertex v, counted from 1, stands at index v - 1. The first vertex_count vertices and edge_count edges are in use; the other places are zero.
-#[derive(Drop)]
+#[derive(Clone, Copy)]
 pub struct Net {
     pub vertices: [Vertex; Net::MOST_VERTICES],
     pub edges: [Edge; Net::MOST_EDGES],
@@ -92,7 +92,7 @@ impl Net {
 }
 
 // A symbol by its number. Letters and vertices are numbered from 1.
-#[derive(Drop)]
+#[derive(Clone, Copy)]
 pub enum Symbol {
     Constant(u8),
     Letter(u8),
@@ -120,7 +120,7 @@ impl Symbol {
 }
 
 // The condition of an edge under a state.
-#[derive(Drop)]
+#[derive(Clone, Copy)]
 pub enum Condition {
     Open,
     NClosed,
@@ -128,7 +128,7 @@ pub enum Condition {
 }
 
 // Which edges a connection may use: any closed ones, n-closed ones or p-closed ones.
-#[derive(Drop)]
+#[derive(Clone, Copy)]
 pub enum Kind {
     Any,
     NType,
@@ -136,7 +136,7 @@ pub enum Kind {
 }
 
 // The limits as one value, to hold the constants to the definitions.
-#[derive(Drop)]
+#[derive(Clone, Copy)]
 pub struct Limits {
     pub vertices: usize,
     pub edges: usize,

@@ -3,7 +3,7 @@ use net::Net;
 use sheet::{Answer, Sheet};
 
 // What a call wrote: so many bytes; so many, and nothing is to follow; or none because the buffer is shorter than the call asks for.
-#[derive(Drop)]
+#[derive(Clone, Copy)]
 pub enum Written {
     Short,
     Bytes(u32),
@@ -11,21 +11,21 @@ pub enum Written {
 }
 
 // What the program does next: the piece that begins with this job, or nothing more.
-#[derive(Drop)]
+#[derive(Clone, Copy)]
 pub enum Next {
     Piece(u32),
     End,
 }
 
 // What a sheet is judged to be: the reader's answer or the verdict, and h.
-#[derive(Drop)]
+#[derive(Clone, Copy)]
 pub struct Judged {
     pub answer: Answer,
     pub keys: u32,
 }
 
 // Limits and bytes of the output.
-#[derive(Drop)]
+#[derive(Clone, Copy)]
 pub struct Report;
 
 impl Report {

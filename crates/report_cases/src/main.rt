@@ -11,7 +11,7 @@ use output::{Next, Report, Written};
 use sheet::Sheet;
 
 // The buffers that calls are lent.
-#[derive(Drop)]
+#[derive(Clone, Copy)]
 struct Lent;
 
 impl Lent {

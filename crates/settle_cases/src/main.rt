@@ -11,7 +11,7 @@ use sheet::Answer;
 use ternary::Signal;
 
 // The buffers that calls are lent.
-#[derive(Drop)]
+#[derive(Clone, Copy)]
 struct Lent;
 
 impl Lent {

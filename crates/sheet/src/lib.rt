@@ -8,7 +8,7 @@ ghost use Rattle.sheet.specs.Limits.{most_columns, line_bytes, widths};
 use net::{Edge, Net, Vertex};
 
 // Lines of five fields and the byte that ends them.
-#[derive(Drop)]
+#[derive(Clone, Copy)]
 pub struct Sheet;
 
 impl Sheet {
@@ -35,14 +35,14 @@ impl Sheet {
 }
 
 // What a field reads as.
-#[derive(Drop)]
+#[derive(Clone, Copy)]
 pub enum Field {
     Number(u32),
     Refused,
 }
 
 // The five numbers of a line; the first says of what kind the line is.
-#[derive(Drop)]
+#[derive(Clone, Copy)]
 pub struct Line {
     pub kind: u32,
     pub second: u32,
@@ -67,14 +67,14 @@ impl Line {
 }
 
 // What a line reads as.
-#[derive(Drop)]
+#[derive(Clone, Copy)]
 pub enum LineRead {
     Five(Line),
     Refused,
 }
 
 // What the form of an edge is: plain, or primed, and then in need of a partner.
-#[derive(Drop)]
+#[derive(Clone, Copy)]
 pub enum Form {
     Plain,
     Primed,
@@ -82,7 +82,7 @@ pub enum Form {
 }
 
 // An answer is 0 or a number of the papers, with a place.
-#[derive(Drop)]
+#[derive(Clone, Copy)]
 pub struct Answer {
     pub number: u8,
     pub place: u16,
@@ -135,42 +135,42 @@ impl Answer {
 }
 
 // The place of a row, if its condition holds.
-#[derive(Drop)]
+#[derive(Clone, Copy)]
 pub enum Found {
     At(u16),
     Nothing,
 }
 
 // What a line below the header adds to the record.
-#[derive(Drop)]
+#[derive(Clone, Copy)]
 pub enum Entry {
     Vertex(Vertex),
     Edge(Edge),
 }
 
 // What such a line is decoded to: what it adds, or the number of its refusal.
-#[derive(Drop)]
+#[derive(Clone, Copy)]
 pub enum Decoded {
     Allowed(Entry),
     Refused(u8),
 }
 
 // What reading a sheet gives: under a number the record is empty.
-#[derive(Drop)]
+#[derive(Clone, Copy)]
 pub struct Reading {
     pub answer: Answer,
     pub net: Net,
 }
 
 // A job line asks for settling from an old input state to a new one, from a start.
-#[derive(Drop)]
+#[derive(Clone, Copy)]
 pub enum JobLine {
     Asked(u32, u32, u32),
     Refused,
 }
 
 // The widths and bytes as one value, to hold the constants to the definitions.
-#[derive(Drop)]
+#[derive(Clone, Copy)]
 pub struct Widths {
     pub field: usize,
     pub fields: usize,

@@ -5,7 +5,7 @@ ghost use Rattle.std.specs.Prelude.{◌≡◌};
 ghost use Rattle.ternary.specs.Signal.{X};
 
 // A signal of a vector in a buffer: the byte 0, 1 or X.
-#[derive(Drop)]
+#[derive(Clone, Copy)]
 pub struct Signal;
 
 impl Signal {

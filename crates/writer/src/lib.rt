@@ -3,7 +3,7 @@
 use sheet::Answer;
 
 // What writing a sheet answers: under a number the length is 0.
-#[derive(Drop)]
+#[derive(Clone, Copy)]
 pub struct Written {
     pub answer: Answer,
     pub length: u32,

@@ -12,7 +12,7 @@ use sheet::{Answer, Sheet};
 use writer::Written;
 
 // The buffers that calls are lent.
-#[derive(Drop)]
+#[derive(Clone, Copy)]
 struct Lent;
 
 impl Lent {
@@ -24,7 +24,7 @@ impl Lent {
 }
 
 // The number of a record that a case alters after reading.
-#[derive(Drop)]
+#[derive(Clone, Copy)]
 struct Part;
 
 impl Part {
