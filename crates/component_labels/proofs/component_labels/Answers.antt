@@ -3,7 +3,6 @@ use native.Mathlib.Omega.{arith}
 use borrow.Author.Rules.{rules}
 use borrow.Author.Tests.{eq-eqb, ne_eqb}
 use mathlib.Core.Path.{◌≡◌, ap, sym, ◌∙◌}
-use mathlib.Core.Logic.{⊎_elim}
 use Prim.Native.Nat.{suc, ◌≤◌, ◌-◌}
 use lib.Dec.{eqb}
 use lib.ListN.{length, get_or}
@@ -14,7 +13,7 @@ use Rattle.net.specs.Tables.{component_labels}
 use Rattle.net.proofs.ClassTables.{classes-on, classes_off, length-classes}
 use Rattle.net.proofs.TableLaws.{inner_read}
 use Rattle.component_labels.proofs.component_labels.Goals as goal
-use Rattle.component_labels.proofs.component_labels.Goals.{After-both, In-loop-i}
+use Rattle.component_labels.proofs.component_labels.Goals.{After-both, In-loop-i, else-both-eq1, then-both-eq1}
 
 -- the ends of edge i
 ends : (c : In-loop-i) → (let e = get_or c.args.net.edges c.loop-i.i no_edge in (e.end1 ≤ most_vertices) × (e.end2 ≤ most_vertices))
@@ -48,10 +47,10 @@ unfolding edge_at
 loop-i-preserved c =
     let e = c.loop-i.invariant.1 in (
       search rules,
-      ⊎_elim
-          (λ w. w.3 ∙ w.2.ensures ∙ ap (merge _ _) e ∙ classes-on (suc most_vertices) _ _ _ _ (sym (counts (goal.at.loop-i-preserved c).After-both) ∙ eq-eqb _ _ w.0.taken))
-          (λ w. w.1 ∙ e ∙ classes_off (suc most_vertices) _ _ _ _ (sym (counts (goal.at.loop-i-preserved c).After-both) ∙ ne_eqb _ _ w.0.left))
-          c.if-both-eq1.branch,
+      elim c.if-both-eq1.branch [
+        | then-both-eq1 w ↦ w.labels-is ∙ w.merge_classes.ensures ∙ ap (merge _ _) e ∙ classes-on (suc most_vertices) _ _ _ _ (sym (counts (goal.at.loop-i-preserved c).After-both) ∙ eq-eqb _ _ w.if-both-eq1.true)
+        | else-both-eq1 w ↦ w.labels-is ∙ e ∙ classes_off (suc most_vertices) _ _ _ _ (sym (counts (goal.at.loop-i-preserved c).After-both) ∙ ne_eqb _ _ w.if-both-eq1.false)
+        ],
     )
 
 pub returns : goal.returns
