@@ -44,11 +44,11 @@ module _ (N : Net) (fit : Fit N) where
       let h = leb-true 2 (lane (excitation_lanes N) v w) e in
       record { key = k; input = spread_input N v w; state = spread_keys N v w; clean = spread_clean N v w; excited = λ b. omega (arith, r, h, b) }
 
-  pub breaks_c1 : (v : ℕ) → breaks_c1 N v ≡ (is_key N v && any_below assignments (unsettled N v))
-  breaks_c1 v = same_test (breaks_c1 N v) (is_key N v && any_below assignments (unsettled N v))
+  pub breaks_c1_lem : (v : ℕ) → breaks_c1 N v ≡ (is_key N v && any_below assignments (unsettled N v))
+  breaks_c1_lem v = same_test (breaks_c1 N v) (is_key N v && any_below assignments (unsettled N v))
       (λ e. there v ((breaks_c1_iff N v).0 e))
       (λ e. (breaks_c1_iff N v).1 (back v (and_left (is_key N v) _ e) (any_found (unsettled N v) assignments (and_right (is_key N v) _ e))))
 
   pub place_c1_lem : place_c1 N ≡ least_below (suc N.vertex_count) (λ v. is_key N v && any_below assignments (unsettled N v))
   unfolding place_c1
-  place_c1_lem = least_ext (suc N.vertex_count) (breaks_c1 N) _ (λ v _. breaks_c1 v)
+  place_c1_lem = least_ext (suc N.vertex_count) (breaks_c1 N) _ (λ v _. breaks_c1_lem v)
