@@ -1,7 +1,6 @@
 -- `is_storage` meets its contract. Beyond the places of the record the definition reads a vertex of role 0.
 use native.Mathlib.Omega.{arith}
 use mathlib.Core.Path.{sym, ◌∙◌, refl}
-use lib.ListN.{length-map}
 use Rattle.sheet.proofs.RuleSteps.{storage_outside, storage_beyond, storage_role, other_role}
 use Rattle.rules.proofs.is_storage.Goals as goal
 
@@ -9,7 +8,7 @@ pub returns-then-not-is_vertex : goal.returns-then-not-is_vertex
 returns-then-not-is_vertex c = storage_outside _ _ (sym c.is_vertex.ensures ∙ c.if-not-is_vertex.true)
 
 pub returns-then-i-ge-MOST_VERTICES : goal.returns-then-i-ge-MOST_VERTICES
-returns-then-i-ge-MOST_VERTICES c = storage_beyond _ _ (let d = c.well_formed.0.1.1.0.1.0.1 in simp length-map at d) c.if-i-ge-MOST_VERTICES.true
+returns-then-i-ge-MOST_VERTICES c = storage_beyond _ _ (c.well_formed.0.1.1.0.1.0.1) c.if-i-ge-MOST_VERTICES.true
 
 pub returns-in-1-to-2 : goal.returns-in-1-to-2
 returns-in-1-to-2 c =
