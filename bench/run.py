@@ -114,7 +114,7 @@ def settlings():
 
 
 if __name__ == "__main__":
-    subprocess.run(["rt", "check", "settle", "verdict_cases", "settle_cases"], cwd=HERE.parent, stdout=subprocess.DEVNULL, check=True)
+    subprocess.run(["tools/build", "settle", "verdict_cases", "settle_cases"], cwd=HERE.parent, stdout=subprocess.DEVNULL, check=True)
     programs(sys.argv[1] if len(sys.argv) > 1 else None)
     verdicts()
     settlings()

@@ -1,4 +1,6 @@
 //! What each signal adds to the index of each key node's ternary table. Definitions and laws are those of the crate `lookups`.
+#![tactic(auto)]
+
 ghost use Rattle.std.specs.Prelude.{◌≡◌, ◌*◌, ◌^◌, ◌/◌, ◌%◌, ◌<◌, length, get_or};
 ghost use Rattle.ternary.specs.TruthTable.{signal_kinds};
 ghost use Rattle.net.specs.Limits.{most_key_nodes, most_signals};

@@ -1,4 +1,6 @@
 //! The jobs of a batch, each on its own bytes.
+#![tactic(auto)]
+
 ghost use Rattle.std.specs.Prelude.{◌≡◌, ◌*◌, ◌≤◌, length, take, drop};
 ghost use Rattle.net.specs.Graph.{key_count};
 ghost use Rattle.sheet.specs.Job.{job_of};

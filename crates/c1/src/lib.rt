@@ -1,4 +1,6 @@
 //! Condition C1, read off the rows of the key nodes. Definitions and laws are those of the crates `excitations` and `troubles`.
+#![tactic(auto)]
+
 ghost use Rattle.std.specs.Prelude.{◌≡◌, suc, ◌*◌, ◌≤◌, ◌&&◌, eqb, leb, length};
 ghost use Rattle.ternary.specs.Bits.{digit};
 ghost use Rattle.ternary.specs.Lists.{any_below};

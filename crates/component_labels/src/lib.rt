@@ -1,5 +1,6 @@
 //! The components of a net's graph: a label for each vertex, and the lowest vertex of a component. Types, definitions and laws are those of the
 //! crate `net`.
+#![tactic(auto)]
 
 mod classes;
 

@@ -1,4 +1,6 @@
 //! Connections to input vertices, in lanes. Definitions and laws are those of the crate `excitations`.
+#![tactic(auto)]
+
 mod conditions;
 mod lane_marks;
 

@@ -1,3 +1,4 @@
 //! No code: definitions and laws of the excitations of all storage vertices at every assignment of their components' signals, in tables of lanes.
 //! Conditions of edges give connections to input vertices, and these give excitations. The functions are in the crates `connections` and
 //! `vertex_rows`.
+#![tactic(auto)]

@@ -1,4 +1,5 @@
 //! Fields in code: blanks, then a decimal number, right-justified and without leading zeros. Types, definitions and laws are those of the crate `sheet`.
+#![tactic(auto)]
 
 ghost use Rattle.std.specs.Prelude.{◌≡◌, cond, ◌++◌, ◌+◌, ◌-◌, ◌*◌, ◌%◌, ◌≤◌, eqb, length};
 ghost use Rattle.ternary.specs.Lists.{same};

@@ -1,5 +1,6 @@
 //! Gate sheets: a net drawn as inverters, NANDs and NORs. What a gate sheet means stands in specs/, the laws of it in proofs/. The functions over it are in the
 //! crates `gates_reader` and `gates_text`.
+#![tactic(auto)]
 
 ghost use Rattle.std.specs.Prelude.{◌≡◌};
 ghost use Rattle.gates.specs.Limits.{gate_limits};

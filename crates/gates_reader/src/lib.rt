@@ -1,4 +1,5 @@
 //! Reading a gate sheet: the header, then a line for each gate, then the key nodes. Types, definitions and laws are those of the crates `gates` and `sheet`.
+#![tactic(auto)]
 
 mod building;
 mod lines;

@@ -1,4 +1,5 @@
 //! What the program `read_gates` prints: the sheet of the net that a gate sheet gives, in the record's own order, or the number and place of a refusal.
+#![tactic(auto)]
 
 ghost use Rattle.std.specs.Prelude.{◌≡◌};
 ghost use Rattle.output.specs.Calls.{report};

@@ -1,5 +1,7 @@
 //! The graph of a net as tables of bytes: an entry for each vertex number from 0; and the number of key nodes.
 //! Types, definitions and laws are those of the crate `net`.
+#![tactic(auto)]
+
 ghost use Rattle.std.specs.Prelude.{◌≡◌, ◌||◌, ◌≤◌, eqb};
 ghost use Rattle.ternary.specs.Bits.{digit};
 ghost use Rattle.net.specs.Limits.{most_vertices};

@@ -1,5 +1,6 @@
 //! The rows over the whole graph: pairs (21), key nodes (22) and the signals of a component (23).
 //! Types, definitions and laws are those of the crate `sheet`.
+#![tactic(auto)]
 
 pub mod components;
 pub mod edge_numbers;

@@ -1,4 +1,6 @@
 //! Ternary tables, grown from truth tables. Definitions are those of the crates `ternary` and `lookups`.
+#![tactic(auto)]
+
 ghost use Rattle.std.specs.Prelude.{◌≡◌, ◌*◌, ◌^◌, ◌<◌, length};
 ghost use Rattle.ternary.specs.TruthTable.{signal_kinds, agree, grow};
 ghost use Rattle.lanes.specs.Grid.{cell, set_row};

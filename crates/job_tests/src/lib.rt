@@ -1,4 +1,6 @@
 //! Numbers: refusals, and the tests that give one.
+#![tactic(auto)]
+
 ghost use Rattle.std.specs.Prelude.{◌≡◌, ◌*◌, ◌≤◌, ltb};
 ghost use Rattle.net.specs.Limits.{most_key_nodes};
 ghost use Rattle.settlements.specs.Settle.{settling};

@@ -1,4 +1,6 @@
 //! What loops over rows of lanes do with one lane, without a branch. Definitions and laws are those of the crate `lanes`.
+#![tactic(auto)]
+
 ghost use Rattle.std.specs.Prelude.{◌≡◌, ◌<◌};
 ghost use Rattle.lanes.specs.Lanes as spec;
 

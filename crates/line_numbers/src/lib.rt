@@ -1,4 +1,5 @@
 //! The first line of a program's output, written to a lent part of just its size. Definitions and limits are those of the crate `output`.
+#![tactic(auto)]
 
 ghost use Rattle.std.specs.Prelude.{◌≡◌, length};
 ghost use Rattle.sheet.specs.Rows.{answer};

@@ -1,4 +1,5 @@
 //! The numbers of a line: the five of any line, read and written, and the three that a job line asks for. Types, definitions and laws are those of the crate `sheet`.
+#![tactic(auto)]
 
 ghost use Rattle.std.specs.Prelude.{◌≡◌, ◌≤◌, ◌<◌, length};
 ghost use Rattle.sheet.specs.Limits.{most_columns, field_count, ReadColumns, line_bytes};

@@ -1,4 +1,5 @@
 //! One line of a sheet by its number. Types, definitions and laws are those of the crate `sheet`.
+#![tactic(auto)]
 
 ghost use Rattle.std.specs.Prelude.{◌≡◌, ◌≤◌};
 ghost use Rattle.sheet.specs.Limits.{most_columns};

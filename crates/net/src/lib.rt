@@ -1,5 +1,6 @@
 //! The record of a net, the report's CMOS graph: its vertices, its edges and how many letters it has.
 //! What a net means stands in specs/, the laws of it in proofs/. The functions over it are in the crates `symbols`, `graph` and `signals`.
+#![tactic(auto)]
 
 ghost use Rattle.std.specs.Prelude.{◌≡◌};
 ghost use Rattle.net.specs.Limits.{limits};

@@ -1,4 +1,6 @@
 //! The text that the program writes: definitions and laws, from the bytes of its two files to the bytes of its output. The code is in the crates over it, up to `report_opening` and `report_pieces`.
+#![tactic(auto)]
+
 use net::Net;
 use sheet::{Answer, Sheet};
 

@@ -1,5 +1,6 @@
 //! Reading a sheet: the header, then a line for each vertex and each edge, then the rows over the graph.
 //! Types, definitions and laws are those of the crate `sheet`.
+#![tactic(auto)]
 
 pub mod body;
 

@@ -1,5 +1,6 @@
 //! The record test: is a record one that some accepted sheet gives?
 //! Types, definitions and laws are those of the crate `sheet`.
+#![tactic(auto)]
 
 ghost use Rattle.std.specs.Prelude.{◌≡◌, ◌<◌};
 ghost use Rattle.ternary.specs.Lists.{all_below};

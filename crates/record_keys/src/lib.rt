@@ -1,5 +1,6 @@
 //! The number of key nodes of any record, as a call with its number: whoever lends buffers for settling knows by it how long they must be. What it answers
 //! stands in the crate `soundness`.
+#![tactic(auto)]
 
 ghost use Rattle.std.specs.Prelude.{◌≡◌};
 ghost use Rattle.soundness.specs.KeyNodes.{key_nodes_of};

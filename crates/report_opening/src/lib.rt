@@ -1,4 +1,5 @@
 //! What a sheet is judged to be, and the first line of the program's text, as calls. What each gives stands in the crate `output`.
+#![tactic(auto)]
 
 ghost use Rattle.std.specs.Prelude.{◌≡◌};
 ghost use Rattle.output.specs.Limits.{opening_bytes};

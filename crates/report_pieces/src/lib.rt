@@ -1,4 +1,5 @@
 //! The lines of the jobs of a piece, as a call. What it writes stands in the crate `output`.
+#![tactic(auto)]
 
 mod job_lines;
 mod line_vectors;

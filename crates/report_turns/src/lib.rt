@@ -1,5 +1,6 @@
 //! What the program writes and what it does next. The program itself reads, hands over and writes; whatever is decided on the way is decided here.
 //! What each function gives stands in the crate `output`.
+#![tactic(auto)]
 
 ghost use Rattle.std.specs.Prelude.{◌≡◌, take};
 ghost use Rattle.output.specs.Program.{written_part, after_opening, after_piece};

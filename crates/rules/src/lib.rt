@@ -1,5 +1,6 @@
 //! Rules: the values that the counts of a header, a vertex and an edge may have.
 //! Types, definitions and laws are those of the crates `net` and `sheet`.
+#![tactic(auto)]
 
 ghost use Rattle.std.specs.Prelude.{◌≡◌, ◌&&◌, leb};
 ghost use Rattle.net.specs.Symbols.{within};

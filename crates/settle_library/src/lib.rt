@@ -1,4 +1,5 @@
 //! The calls for C: numbers and byte slices alone, under names that begin with `settle_`. Further results go through lent numbers.
+#![tactic(auto)]
 
 ghost use Rattle.std.specs.Prelude.{◌≡◌};
 ghost use Rattle.sheet.specs.Rows.{answer};

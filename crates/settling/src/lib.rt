@@ -1,4 +1,5 @@
 //! Settling and batches: the two passes as calls with their numbers and lent buffers. What each answers is defined in the crate `settlements`.
+#![tactic(auto)]
 
 ghost use Rattle.std.specs.Prelude.{◌≡◌};
 ghost use Rattle.settlements.specs.Settle.{settlement, settle_of};

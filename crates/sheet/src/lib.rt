@@ -1,6 +1,7 @@
 //! The sheet: its lines, what reading one answers, and the record that an accepted sheet gives.
 //! What a sheet means stands in specs/, the laws of it in proofs/. The functions over it are in the crates `fields`, `line_values`, `lines`, `rules`,
 //! `graph_rows`, `record`, `sheet_readings` and `reader`.
+#![tactic(auto)]
 
 ghost use Rattle.std.specs.Prelude.{◌≡◌, ◌≤◌};
 ghost use Rattle.sheet.specs.Limits.{most_columns, line_bytes, widths};

@@ -1,5 +1,6 @@
 //! What reading a sheet begins and ends with: the test of its length, the record before its lines are read, a refusal, and the rows over the graph. Types,
 //! definitions and laws are those of the crate `sheet`.
+#![tactic(auto)]
 
 ghost use Rattle.std.specs.Prelude.{◌≡◌, ◌≤◌};
 ghost use Rattle.sheet.specs.Checked.{Checked};

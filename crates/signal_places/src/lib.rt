@@ -1,4 +1,6 @@
 //! The place of each symbol among the signals of each component. Definitions and laws are those of the crate `excitations`.
+#![tactic(auto)]
+
 ghost use Rattle.std.specs.Prelude.{◌≡◌, true, ℕ, suc, ◌≤◌, ◌<◌, ◌*◌, eqb, length, get_or};
 ghost use Rattle.ternary.specs.Lists.{count_below};
 ghost use Rattle.net.specs.Limits.{most_vertices};

@@ -1,5 +1,7 @@
 //! The signals of a component: the letters and key nodes on the edges that touch it, and the letters of the input vertices that these
 //! edges touch. Types, definitions and laws are those of the crate `net`.
+#![tactic(auto)]
+
 ghost use Rattle.std.specs.Prelude.{◌≡◌, true, cond, ◌&&◌, ◌≤◌, eqb};
 ghost use Rattle.net.specs.Limits.{most_vertices};
 ghost use Rattle.net.specs.Graph.{is_storage};

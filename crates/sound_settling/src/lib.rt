@@ -1,4 +1,5 @@
 //! Settling and a batch on a net that an accepted sheet gives and that meets C1. What each answers is defined in the crate `settlements`.
+#![tactic(auto)]
 
 mod prepared;
 

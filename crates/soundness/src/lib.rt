@@ -1,5 +1,6 @@
 //! What the verdict, the call for one vertex and the call for the number of key nodes answer: definitions and laws. The code is in the crates `verdict`,
 //! `vertex_excitation` and `record_keys`.
+#![tactic(auto)]
 
 use sheet::Answer;
 

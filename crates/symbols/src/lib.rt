@@ -1,4 +1,6 @@
 //! Symbols by their numbers, and the conditions of edges. Types, definitions and laws are those of the crate `net`.
+#![tactic(auto)]
+
 ghost use Rattle.std.specs.Prelude.{◌≡◌};
 ghost use Rattle.net.specs.State.{condition_of};
 ghost use Rattle.net.specs.Symbols.{decode, is_variable};

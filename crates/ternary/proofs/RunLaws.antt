@@ -7,7 +7,7 @@ use native.Mathlib.Omega.{arith}
 use lib.Dec.{eqb}
 use borrow.Author.Tests.{eqb-true, leb-false, not-false}
 use Rattle.ternary.specs.Bits.{bit, has}
-use Rattle.ternary.specs.Signal.{at, Completes}
+use Rattle.ternary.specs.Signal.{Completes}
 use Rattle.ternary.specs.Excitation.{C1}
 use Rattle.ternary.specs.Passes.{mix}
 use Rattle.ternary.specs.Run.{Run, Step, switch, refused}

@@ -1,5 +1,6 @@
 //! Ternary settling over an abstract network: the theory that the net's passes and demand 3 rest on.
 //! What it means stands in specs/, its laws in proofs/.
+#![tactic(auto)]
 
 ghost use Rattle.std.specs.Prelude.{◌≡◌};
 ghost use Rattle.ternary.specs.Signal.{X};

@@ -1,4 +1,5 @@
 //! The excitation of one vertex in one state, as a call with its numbers. What it answers stands in the crate `soundness`.
+#![tactic(auto)]
 
 mod one;
 

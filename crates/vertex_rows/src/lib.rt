@@ -1,4 +1,6 @@
 //! The table of excitations: those of every storage vertex, in lanes. Definitions and laws are those of the crate `excitations`.
+#![tactic(auto)]
+
 ghost use Rattle.std.specs.Prelude.{◌≡◌, suc, ◌*◌, eqb, length, get_or};
 ghost use Rattle.ternary.specs.Lists.{table};
 ghost use Rattle.net.specs.Limits.{most_vertices};

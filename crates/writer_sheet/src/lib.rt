@@ -1,5 +1,6 @@
 //! Writing a record's sheet to a lent buffer: in the agreed order of its edges, or in the record's own. Types, definitions and laws are those of the
 //! crates `sheet` and `writer`.
+#![tactic(auto)]
 
 mod lines;
 

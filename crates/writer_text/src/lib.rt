@@ -1,4 +1,5 @@
 //! What programs print of a record: its sheet, or under a refusal the number and place. The program `write_net` prints a sheet in the agreed order.
+#![tactic(auto)]
 
 ghost use Rattle.std.specs.Prelude.{◌≡◌, ◌≤◌, length};
 ghost use Rattle.sheet.specs.Limits.{most_bytes};

@@ -1,4 +1,6 @@
 //! What settling writes: a vector's bytes, and a job's answer.
+#![tactic(auto)]
+
 ghost use Rattle.std.specs.Prelude.{◌≡◌, [], ◌∷◌, ◌++◌, ◌*◌, ◌≤◌, length, take, drop};
 ghost use Rattle.net.specs.Limits.{most_key_nodes};
 ghost use Rattle.settlements.specs.Batch.{answer_width};

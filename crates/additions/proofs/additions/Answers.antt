@@ -35,19 +35,17 @@ pub weights_in-list-requires : goal.weights_in-list-requires
 weights_in-list-requires c = (c.requires.0, c.requires.1, c.requires.2, c.requires.3, storage (goal.at.weights_in-list-requires c).In-loop-k, omega arith)
 
 pub addition_column-requires : goal.addition_column-requires
-addition_column-requires c =
-    (
-      size (goal.at.addition_column-requires c).At-loop-k,
-      omega (arith, in-range (goal.at.addition_column-requires c).In-loop-k, c.requires.0.keys),
-      rw c.weights_in-list.ensures (weights_bound signal_kinds _ _ (omega arith) c.requires.0 (storage (goal.at.addition_column-requires c).In-loop-k)),
-    )
+addition_column-requires c = (
+  size (goal.at.addition_column-requires c).At-loop-k,
+  omega (arith, in-range (goal.at.addition_column-requires c).In-loop-k, c.requires.0.keys),
+  rw c.weights_in-list.ensures (weights_bound signal_kinds _ _ (omega arith) c.requires.0 (storage (goal.at.addition_column-requires c).In-loop-k)),
+)
 
 pub loop-k-preserved : goal.loop-k-preserved
-loop-k-preserved c =
-    (
-      omega (arith, in-range (goal.at.loop-k-preserved c).In-loop-k),
-      columns-step _ _ (vertex (goal.at.loop-k-preserved c).In-loop-k) c.weights_in-list.ensures c.loop-k.invariant.1 c.addition_column.ensures,
-    )
+loop-k-preserved c = (
+  omega (arith, in-range (goal.at.loop-k-preserved c).In-loop-k),
+  columns-step _ _ (vertex (goal.at.loop-k-preserved c).In-loop-k) c.weights_in-list.ensures c.loop-k.invariant.1 c.addition_column.ensures,
+)
 
 pub returns : goal.returns
 returns c =

@@ -14,7 +14,7 @@ use Rattle.batch_jobs.proofs.job.Goals.{Else-number-ne0, In-Asked}
 asked : (c : In-Asked) → job_of c.args.line.now ≡ Asked c.in-Asked.old c.in-Asked.new c.in-Asked.start
 asked c = sym c.job.ensures ∙ c.in-Asked.is
 
-states : (c : Else-number-ne0) → 
+states : (c : Else-number-ne0) →
     number_of c.args.net c.in-Asked.old c.in-Asked.new c.in-Asked.start ≡ 0
 states c =
     rw c.requires.0.keys at (sym c.state_number-number.ensures ∙ c.if-number-ne0.false)

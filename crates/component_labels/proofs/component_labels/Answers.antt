@@ -50,7 +50,7 @@ loop-i-preserved c =
       elim c.if-both-eq1.branch [
         | then-both-eq1 w ↦ w.labels-is ∙ w.merge_classes.ensures ∙ ap (merge _ _) e ∙ classes-on (suc most_vertices) _ _ _ _ (sym (counts (goal.at.loop-i-preserved c).After-both) ∙ eq-eqb _ _ w.if-both-eq1.true)
         | else-both-eq1 w ↦ w.labels-is ∙ e ∙ classes_off (suc most_vertices) _ _ _ _ (sym (counts (goal.at.loop-i-preserved c).After-both) ∙ ne_eqb _ _ w.if-both-eq1.false)
-        ],
+      ],
     )
 
 pub returns : goal.returns

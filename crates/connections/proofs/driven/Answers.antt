@@ -110,13 +110,12 @@ pub bounds-places-y : goal.bounds-places-y
 bounds-places-y c = omega (arith, y-range (goal.at.bounds-places-y c).After-chosen-y, label-fits (goal.at.bounds-places-y c).Then-storage-x-ne1)
 
 pub mark_row-requires : goal.mark_row-requires
-mark_row-requires c =
-    (
-      omega (arith, size (goal.at.mark_row-requires c).In-loop-i, y-range (goal.at.mark_row-requires c).After-chosen-y),
-      omega (arith, c.mark_row-arg-then-storage-x-ne1-1.given, c.requires.0.readable.edges),
-      place-few (goal.at.mark_row-requires c).Then-storage-x-ne1,
-      c.requires.4,
-    )
+mark_row-requires c = (
+  omega (arith, size (goal.at.mark_row-requires c).In-loop-i, y-range (goal.at.mark_row-requires c).After-chosen-y),
+  omega (arith, c.mark_row-arg-then-storage-x-ne1-1.given, c.requires.0.readable.edges),
+  place-few (goal.at.mark_row-requires c).Then-storage-x-ne1,
+  c.requires.4,
+)
 
 pub loop-i-preserved : goal.loop-i-preserved
 loop-i-preserved c =
@@ -124,15 +123,15 @@ loop-i-preserved c =
     let e = c.loop-i.invariant.1 in (
       search rules,
       elim c.if-storage-y-eq1.branch [
-      | then-storage-y-eq1+then-storage-x-ne1 w ↦
-          let sy = y-storage (goal.at.loop-i-preserved c).After-chosen-x ∙ eq-eqb _ _ w.if-storage-y-eq1.true in
-          let sx = x-storage (goal.at.loop-i-preserved c).After-chosen-x ∙ ne_eqb _ _ w.if-storage-x-ne1.true in
-          w.marks-is ∙ driven_step c.args.net c.args.on.now c.args.value c.requires.0 i c.loop-i-test.true sy sx (owned (goal.at.loop-i-preserved c).After-chosen-y) (label (goal.at.loop-i-preserved c).After-chosen-x sx) (place (goal.at.loop-i-preserved c).After-chosen-x sy sx) w.label_hits-low.ensures w.label_hits-high.ensures e w.mark_row.ensures
-      | else-storage-y-eq1 w ↦
-          w.marks-is
-          ∙ elim w.else-storage-y-eq1.branch [
-            | else-storage-y-eq1-via-then-storage-y-eq1+else-storage-x-ne1 v ↦ driven_inner c.args.net c.args.on.now c.args.value i (x-storage (goal.at.loop-i-preserved c).After-chosen-x ∙ eq-eqb _ _ v.if-storage-x-ne1.false) e
-            | else-storage-y-eq1-via-else-storage-y-eq1 v ↦ driven_outer c.args.net c.args.on.now c.args.value i (y-storage (goal.at.loop-i-preserved c).After-chosen-x ∙ ne_eqb _ _ v.if-storage-y-eq1.false) e
+        | then-storage-y-eq1+then-storage-x-ne1 w ↦
+            let sy = y-storage (goal.at.loop-i-preserved c).After-chosen-x ∙ eq-eqb _ _ w.if-storage-y-eq1.true in
+            let sx = x-storage (goal.at.loop-i-preserved c).After-chosen-x ∙ ne_eqb _ _ w.if-storage-x-ne1.true in
+            w.marks-is ∙ driven_step c.args.net c.args.on.now c.args.value c.requires.0 i c.loop-i-test.true sy sx (owned (goal.at.loop-i-preserved c).After-chosen-y) (label (goal.at.loop-i-preserved c).After-chosen-x sx) (place (goal.at.loop-i-preserved c).After-chosen-x sy sx) w.label_hits-low.ensures w.label_hits-high.ensures e w.mark_row.ensures
+        | else-storage-y-eq1 w ↦
+            w.marks-is
+            ∙ elim w.else-storage-y-eq1.branch [
+              | else-storage-y-eq1-via-then-storage-y-eq1+else-storage-x-ne1 v ↦ driven_inner c.args.net c.args.on.now c.args.value i (x-storage (goal.at.loop-i-preserved c).After-chosen-x ∙ eq-eqb _ _ v.if-storage-x-ne1.false) e
+              | else-storage-y-eq1-via-else-storage-y-eq1 v ↦ driven_outer c.args.net c.args.on.now c.args.value i (y-storage (goal.at.loop-i-preserved c).After-chosen-x ∙ ne_eqb _ _ v.if-storage-y-eq1.false) e
             ]
       ],
     )

@@ -43,25 +43,25 @@ turn c =
     let seen = ap (λ (r : List ℕ). level c.args.on.now i r (edge_at N i).end1 (edge_at N i).end2) (sym swept) in
     elim c.if-storage-u-eq1.branch [
       | then-storage-u-eq1+then-storage-v-eq1+then-not-carry w ↦
-        let inside = inner_by_flags N i c.requires.1 (ends (goal.at.Joined-storage-u-eq1 c).After-turned-i).0 (ends (goal.at.Joined-storage-u-eq1 c).After-turned-i).1 w.if-storage-u-eq1.true w.if-storage-v-eq1.true in (
-      w.marks-is ∙ w.carry.ensures.0 ∙ ap (carry_at N c.args.on.now i) swept ∙ sweep-on N i c.args.on.now c.args.marks.now c.args.back n e inside,
-      w.closed-is ∙ not_level N i c.args.on.now c.args.marks.now c.args.back n e inside (seen ∙ sym w.carry.ensures.1 ∙ w.if-not-carry.true),
-    )
+          let inside = inner_by_flags N i c.requires.1 (ends (goal.at.Joined-storage-u-eq1 c).After-turned-i).0 (ends (goal.at.Joined-storage-u-eq1 c).After-turned-i).1 w.if-storage-u-eq1.true w.if-storage-v-eq1.true in (
+            w.marks-is ∙ w.carry.ensures.0 ∙ ap (carry_at N c.args.on.now i) swept ∙ sweep-on N i c.args.on.now c.args.marks.now c.args.back n e inside,
+            w.closed-is ∙ not_level N i c.args.on.now c.args.marks.now c.args.back n e inside (seen ∙ sym w.carry.ensures.1 ∙ w.if-not-carry.true),
+          )
       | then-storage-u-eq1+then-storage-v-eq1+else-not-carry w ↦
-        let inside = inner_by_flags N i c.requires.1 (ends (goal.at.Joined-storage-u-eq1 c).After-turned-i).0 (ends (goal.at.Joined-storage-u-eq1 c).After-turned-i).1 w.if-storage-u-eq1.true w.if-storage-v-eq1.true in (
-      w.marks-is ∙ w.carry.ensures.0 ∙ ap (carry_at N c.args.on.now i) swept ∙ sweep-on N i c.args.on.now c.args.marks.now c.args.back n e inside,
-      w.closed-is ∙ level-on N i c.args.on.now c.args.marks.now c.args.back n e l.invariant.2 (seen ∙ sym w.carry.ensures.1 ∙ w.if-not-carry.false),
-    )
-      | else-storage-u-eq1 w ↦     
-        let outside : inner N (edge_at N i) ≡ false =
-            elim w.else-storage-u-eq1.branch [
+          let inside = inner_by_flags N i c.requires.1 (ends (goal.at.Joined-storage-u-eq1 c).After-turned-i).0 (ends (goal.at.Joined-storage-u-eq1 c).After-turned-i).1 w.if-storage-u-eq1.true w.if-storage-v-eq1.true in (
+            w.marks-is ∙ w.carry.ensures.0 ∙ ap (carry_at N c.args.on.now i) swept ∙ sweep-on N i c.args.on.now c.args.marks.now c.args.back n e inside,
+            w.closed-is ∙ level-on N i c.args.on.now c.args.marks.now c.args.back n e l.invariant.2 (seen ∙ sym w.carry.ensures.1 ∙ w.if-not-carry.false),
+          )
+      | else-storage-u-eq1 w ↦
+          let outside : inner N (edge_at N i) ≡ false =
+          elim w.else-storage-u-eq1.branch [
             | else-storage-u-eq1-via-then-storage-u-eq1+else-storage-v-eq1 v ↦ outer_second N i c.requires.1 (ends (goal.at.Joined-storage-u-eq1 c).After-turned-i).1 v.if-storage-v-eq1.false
             | else-storage-u-eq1-via-else-storage-u-eq1 v ↦ outer_first N i c.requires.1 (ends (goal.at.Joined-storage-u-eq1 c).After-turned-i).0 v.if-storage-u-eq1.false
-            ] in (
-      w.marks-is ∙ swept ∙ sweep_off N i c.args.on.now c.args.marks.now c.args.back n e outside,
-      w.closed-is ∙ level_off N i c.args.on.now c.args.marks.now c.args.back n e l.invariant.2 outside,
-    )
-      ]
+          ] in (
+            w.marks-is ∙ swept ∙ sweep_off N i c.args.on.now c.args.marks.now c.args.back n e outside,
+            w.closed-is ∙ level_off N i c.args.on.now c.args.marks.now c.args.back n e l.invariant.2 outside,
+          )
+    ]
 
 pub loop-n-init : goal.loop-n-init
 unfolding sweep all_below

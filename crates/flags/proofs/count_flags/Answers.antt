@@ -20,7 +20,7 @@ loop-i-preserved c =
       search rules,
       elim c.if-flags-i-eq1.branch [ then-flags-i-eq1 w ↦ omega arith | else-flags-i-eq1 w ↦ omega arith ],
       elim c.if-flags-i-eq1.branch [
-      | then-flags-i-eq1 w ↦ w.count-is ∙ ap (λ (n : ℕ). n + 1) e ∙ count-on _ _ (eq-eqb _ _ w.if-flags-i-eq1.true)
-      | else-flags-i-eq1 w ↦ w.count-is ∙ e ∙ count_off _ _ (ne_eqb _ _ w.if-flags-i-eq1.false)
+        | then-flags-i-eq1 w ↦ w.count-is ∙ ap (λ (n : ℕ). n + 1) e ∙ count-on _ _ (eq-eqb _ _ w.if-flags-i-eq1.true)
+        | else-flags-i-eq1 w ↦ w.count-is ∙ e ∙ count_off _ _ (ne_eqb _ _ w.if-flags-i-eq1.false)
       ],
     )

@@ -28,7 +28,7 @@ five-at : (c : In-Five) → line_answer (read_line gate_columns (take gate_line_
 five-at c = sym c.read_line.ensures ∙ c.in-Five.is
 
 -- and its values are allowed
-ok_at : (c : Else-not-first_line_ok) → 
+ok_at : (c : Else-not-first_line_ok) →
     let h = c.in-Five.header in
     (gate_header_ok h && eqb (length c.args.sheet.now / gate_line_bytes) (1 + h.second)) ≡ true
 ok_at c = sym c.first_line_ok.ensures ∙ c.if-not-first_line_ok.false

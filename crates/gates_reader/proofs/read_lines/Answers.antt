@@ -14,7 +14,7 @@ use Rattle.gates_reader.proofs.read_lines.Goals as goal
 use Rattle.gates_reader.proofs.read_lines.Goals.{In-Five, In-Gate}
 
 -- the line is five fields, and what it is decoded to where it is allowed
-five : (c : In-Five) → 
+five : (c : In-Five) →
     line_answer (read_line gate_columns (lent gate_line_bytes c.args.sheet.now c.loop-g.at)) ≡ Five c.in-Five.line
 five c = sym c.read_line.ensures ∙ c.in-Five.is
 

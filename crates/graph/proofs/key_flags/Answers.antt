@@ -30,13 +30,12 @@ pub bounds-keys-v : goal.bounds-keys-v
 bounds-keys-v c = omega (arith, in_table (goal.at.bounds-keys-v c).After-vertex_of-v)
 
 pub loop-k-preserved : goal.loop-k-preserved
-loop-k-preserved c =
-    (
-      search rules,
-      rw (marks (goal.at.loop-k-preserved c).After-vertex_of-v)
-          (key_step c.args.net c.requires.0.vertices c.loop-k.k _ c.loop-k.invariant.1
-          (storage_read c.args.net c.args.storage.now c.requires.1 _ (vertex_of_range _))),
-    )
+loop-k-preserved c = (
+  search rules,
+  rw (marks (goal.at.loop-k-preserved c).After-vertex_of-v)
+      (key_step c.args.net c.requires.0.vertices c.loop-k.k _ c.loop-k.invariant.1
+      (storage_read c.args.net c.args.storage.now c.requires.1 _ (vertex_of_range _))),
+)
 
 pub returns : goal.returns
 returns c = let q : c.loop-k.k ≡ c.args.net.edge_count = omega arith in keys_all _ (rw q at c.loop-k.invariant.1)

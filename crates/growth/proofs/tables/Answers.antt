@@ -30,11 +30,10 @@ pub slice_bounds-grow-end : goal.slice_bounds-grow-end
 slice_bounds-grow-end c = row (goal.at.slice_bounds-grow-end c).After-wide-from
 
 pub loop-k-preserved : goal.loop-k-preserved
-loop-k-preserved c =
-    (
-      omega (arith, c.loop-k-test.true),
-      tables_step _ _ (room (goal.at.loop-k-preserved c).In-loop-k) c.wide-from.ensures.0 c.grow.auto.out c.grow.ensures c.loop-k.invariant.1,
-    )
+loop-k-preserved c = (
+  omega (arith, c.loop-k-test.true),
+  tables_step _ _ (room (goal.at.loop-k-preserved c).In-loop-k) c.wide-from.ensures.0 c.grow.auto.out c.grow.ensures c.loop-k.invariant.1,
+)
 
 pub returns : goal.returns
 returns c =

@@ -28,7 +28,7 @@ width_is : (c : In-loop-j) → c.line_bytes-width.result ≡ line_bytes c.args.c
 width_is c = c.line_bytes-width.ensures
 
 -- the line's five numbers, and what it is decoded to where it is allowed
-five : (c : After-decode_line-decoded) → 
+five : (c : After-decode_line-decoded) →
     line_answer (read_line c.args.columns (lent c.line_bytes-width.result c.args.sheet.now c.loop-j.at))
     ≡ Five c.in-Five.line
 five c = sym c.read_line.ensures ∙ c.in-Five.is

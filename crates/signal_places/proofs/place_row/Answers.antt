@@ -21,11 +21,11 @@ loop-s-preserved c =
       elim c.if-flags-s-eq1.branch [
         | then-flags-s-eq1 w ↦ omega arith
         | else-flags-s-eq1 w ↦ omega arith
-        ],
+      ],
       elim c.if-flags-s-eq1.branch [
         | then-flags-s-eq1 w ↦ w.count-is ∙ ap (λ (n : ℕ). n + 1) e ∙ count-on _ _ (eq-eqb _ _ w.if-flags-s-eq1.true)
         | else-flags-s-eq1 w ↦ w.count-is ∙ e ∙ count_off _ _ (ne_eqb _ _ w.if-flags-s-eq1.false)
-        ],
+      ],
       row_step c.loop-s.invariant.3 (omega arith) e,
     )
 

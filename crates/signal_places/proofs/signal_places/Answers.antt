@@ -37,7 +37,7 @@ loop-y-preserved c =
       elim c.if-storage-y-eq1.branch [
         | then-storage-y-eq1 w ↦ w.places-is ∙ places_step _ _ (test (goal.at.loop-y-preserved c).After-t9-1 ∙ eq-eqb _ _ w.if-storage-y-eq1.true) (omega arith) e w.store_row.ensures
         | else-storage-y-eq1 w ↦ w.places-is ∙ places_skip _ _ (test (goal.at.loop-y-preserved c).After-t9-1 ∙ ne_eqb _ _ w.if-storage-y-eq1.false) e
-        ],
+      ],
     )
 
 pub returns : goal.returns

@@ -18,11 +18,11 @@ fit : (c : Start) → Fit c.args.net
 fit c = valid_fit _ c.requires.0
 
 -- what the two tests of room tell
-results-told : (c : After-is_short) → 
+results-told : (c : After-is_short) →
     c.is_short.result ≡ ltb (length c.args.results.now) (job_count c.args.lines.now * job_width c.args.net)
 results-told c = rw (← c.key_count-h.ensures, ← c.job_count-count.ensures) c.is_short.ensures
 
-answers-told : (c : After-is_short-2) → 
+answers-told : (c : After-is_short-2) →
     c.is_short-2.result ≡ ltb (length c.args.answers.now) (job_count c.args.lines.now * answer_width)
 answers-told c = rw (← c.job_count-count.ensures) c.is_short-2.ensures
 
@@ -47,18 +47,17 @@ pub additions-additions-requires : goal.additions-additions-requires
 additions-additions-requires c = fit (goal.at.additions-additions-requires c).Start
 
 pub run-requires : goal.run-requires
-run-requires c =
-    (
-      record {
-        fit = fit (goal.at.run-requires c).Start;
-        c1 = (place_c1_none _).0 c.requires.1;
-        keys = c.key_count-h.ensures;
-        tabled = c.ternary_tables-rows.ensures;
-        added = c.additions-additions.ensures;
-      },
-      ltb-false _ _ (sym (results-told (goal.at.run-requires c).After-is_short) ∙ c.if-is_short.false),
-      ltb-false _ _ (sym (answers-told (goal.at.run-requires c).After-is_short-2) ∙ c.if-is_short-2.false),
-    )
+run-requires c = (
+  record {
+    fit = fit (goal.at.run-requires c).Start;
+    c1 = (place_c1_none _).0 c.requires.1;
+    keys = c.key_count-h.ensures;
+    tabled = c.ternary_tables-rows.ensures;
+    added = c.additions-additions.ensures;
+  },
+  ltb-false _ _ (sym (results-told (goal.at.run-requires c).After-is_short) ∙ c.if-is_short.false),
+  ltb-false _ _ (sym (answers-told (goal.at.run-requires c).After-is_short-2) ∙ c.if-is_short-2.false),
+)
 
 pub returns : goal.returns
 returns c =

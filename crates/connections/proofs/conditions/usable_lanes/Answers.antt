@@ -85,10 +85,10 @@ loop-i-preserved c =
     let e = c.loop-i.invariant.1 in (
       search rules,
       elim c.if-storage-y-eq1.branch [
-      | then-storage-y-eq1 w ↦
-          let sy = storage (goal.at.loop-i-preserved c).After-chosen-y ∙ eq-eqb _ _ w.if-storage-y-eq1.true in
-          w.on-is ∙ usable-step c.args.net c.args.kind c.requires.0 i c.loop-i-test.true sy (place (goal.at.loop-i-preserved c).After-chosen-y sy) w.usable_at-low.ensures w.usable_at-high.ensures e w.choose_row.ensures
-      | else-storage-y-eq1 w ↦ w.on-is ∙ usable_skip c.args.net c.args.kind i (storage (goal.at.loop-i-preserved c).After-chosen-y ∙ ne_eqb _ _ w.if-storage-y-eq1.false) e
+        | then-storage-y-eq1 w ↦
+            let sy = storage (goal.at.loop-i-preserved c).After-chosen-y ∙ eq-eqb _ _ w.if-storage-y-eq1.true in
+            w.on-is ∙ usable-step c.args.net c.args.kind c.requires.0 i c.loop-i-test.true sy (place (goal.at.loop-i-preserved c).After-chosen-y sy) w.usable_at-low.ensures w.usable_at-high.ensures e w.choose_row.ensures
+        | else-storage-y-eq1 w ↦ w.on-is ∙ usable_skip c.args.net c.args.kind i (storage (goal.at.loop-i-preserved c).After-chosen-y ∙ ne_eqb _ _ w.if-storage-y-eq1.false) e
       ],
     )
 

@@ -9,10 +9,9 @@ signal_places-places-requires c =
     c.component_labels-labels.ensures
 
 pub additions-requires : goal.additions-requires
-additions-requires c =
-    (
-      c.requires,
-      prepared _ c.requires.readable c.storage_flags-storage.ensures c.component_labels-labels.ensures,
-      c.signal_places-places.ensures,
-      c.key_vertices-keys.ensures,
-    )
+additions-requires c = (
+  c.requires,
+  prepared _ c.requires.readable c.storage_flags-storage.ensures c.component_labels-labels.ensures,
+  c.signal_places-places.ensures,
+  c.key_vertices-keys.ensures,
+)
