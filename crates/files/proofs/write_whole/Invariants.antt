@@ -1,0 +1,9 @@
+-- What was written is within the text; each turn writes more of it.
+use Rattle.std.proofs.Common.{◌≤◌, ◌-◌, length}
+use Rattle.files.proofs.write_whole.Given as goal
+
+abbrev pub invariant-loop-done : goal.invariant-loop-done
+invariant-loop-done l = l.done ≤ length l.text
+
+abbrev pub decreases-loop-done : goal.decreases-loop-done
+decreases-loop-done l = length l.text - l.done
