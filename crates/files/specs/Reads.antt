@@ -1,5 +1,5 @@
 -- For the code alone: what opening a file and one read may answer.
-use Rattle.std.specs.Prelude.{ℕ, ◌≤◌, ◌≡◌, ℤ, pos, negsuc, Option, None, Some, Result, Ok, Err}
+use Rattle.std.specs.Prelude.{ℕ, List, [], ◌≤◌, ◌≡◌, ℤ, pos, negsuc, Option, None, Some, Result, Ok, Err}
 use Rattle.std.specs.Fd.{file_raw_fd}
 use Rattle.std.specs.declared.fs.File.{File}
 
@@ -17,3 +17,8 @@ Opened (negsuc n) = n ≡ 0
 abbrev pub Within : {E : Type 0} → ℕ → Result ℕ E → Type 0
 Within room (Ok n) = n ≤ room
 Within room (Err error) = Unit {0}
+
+-- the bytes that a file has left, where they are known; a file that could not be opened has none
+abbrev pub left_of : {F : Type 0} → (F → Option (List ℕ)) → Option F → Option (List ℕ)
+left_of remaining (Some file) = remaining file
+left_of remaining None = Some []

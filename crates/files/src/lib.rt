@@ -1,9 +1,10 @@
 //! The files of a program. What cannot be opened, read or written is told on standard error; what cannot be opened or read counts as the end of the file.
 #![tactic(auto)]
 
-ghost use Rattle.std.specs.Prelude.{◌≤◌, ◌≡◌, true, length};
+ghost use Rattle.std.specs.Prelude.{◌≤◌, ◌≡◌, true, false, length, take, OnOk};
 ghost use Rattle.std.specs.Counts.{IsPrefixLen};
-ghost use Rattle.files.specs.Reads.{Opened, Within, descriptor};
+ghost use Rattle.std.specs.Io.KnownBytes.{Appends, Consumes, ReadConsumes};
+ghost use Rattle.files.specs.Reads.{Opened, Within, descriptor, left_of};
 
 use std::fs::File;
 use std::io::{Cursor, Error, ErrorKind, Read, Write};
@@ -56,14 +57,16 @@ pub fn open(rt: &HostRuntime, name: &str, told: &[u8]) -> Option<File>
     None
 }
 
-fn read_once(file: &mut File, buffer: &mut [u8]) -> io::Result<usize>
-    ensures { Within (length buffer.new) result }
+fn read_once<F: Read>(file: &mut F, buffer: &mut [u8]) -> io::Result<usize>
+    ensures within { Within (length buffer.new) result }
+    ensures bytes { ReadConsumes (F.remaining file.old) (F.remaining file.new) result buffer.new }
 {
     file.read(buffer)
 }
 
-fn read_some(file: &mut File, buffer: &mut [u8]) -> io::Result<usize>
-    ensures { Within (length buffer.new) result }
+fn read_some<F: Read>(file: &mut F, buffer: &mut [u8]) -> io::Result<usize>
+    ensures within { Within (length buffer.new) result }
+    ensures bytes { ReadConsumes (F.remaining file.old) (F.remaining file.new) result buffer.new }
 {
     let tries = MOST_TRIES;
     let mut got = read_once(file, buffer);
@@ -77,7 +80,9 @@ fn read_some(file: &mut File, buffer: &mut [u8]) -> io::Result<usize>
 }
 
 // Whether a signal interrupted a read.
-fn is_interrupted(got: &io::Result<usize>) -> bool {
+fn is_interrupted(got: &io::Result<usize>) -> bool
+    ensures { OnOk got.now (result ≡ false) }
+{
     match got {
         Ok(_) => false,
         Err(error) => error.kind() == ErrorKind::Interrupted,
@@ -85,8 +90,9 @@ fn is_interrupted(got: &io::Result<usize>) -> bool {
 }
 
 // How many bytes could be read; a failure is told.
-fn read_more(rt: &HostRuntime, file: &mut File, told: &[u8], buffer: &mut [u8]) -> usize
-    ensures { result ≤ length buffer.new }
+fn read_more<F: Read>(rt: &HostRuntime, file: &mut F, told: &[u8], buffer: &mut [u8]) -> usize
+    ensures within { result ≤ length buffer.new }
+    ensures bytes { Consumes (F.remaining file.old) (F.remaining file.new) (take result buffer.new) }
 {
     match read_some(file, buffer) {
         Ok(count) => count,
@@ -98,8 +104,9 @@ fn read_more(rt: &HostRuntime, file: &mut File, told: &[u8], buffer: &mut [u8]) 
 }
 
 // Reads until the buffer is full, the file ends or a read fails.
-fn read_file(rt: &HostRuntime, file: &mut File, told: &[u8], buffer: &mut [u8]) -> usize
-    ensures { IsPrefixLen result buffer.new }
+fn read_file<F: Read>(rt: &HostRuntime, file: &mut F, told: &[u8], buffer: &mut [u8]) -> usize
+    ensures in_bounds { IsPrefixLen result buffer.new }
+    ensures bytes { Consumes (F.remaining file.old) (F.remaining file.new) (take result buffer.new) }
 {
     let mut done: usize = 0;
     while done < buffer.len() {
@@ -113,8 +120,14 @@ fn read_file(rt: &HostRuntime, file: &mut File, told: &[u8], buffer: &mut [u8]) 
 }
 
 // The same of a file that may not be there: one that could not be opened has no bytes.
-pub fn read(rt: &HostRuntime, file: &mut Option<File>, told: &[u8], buffer: &mut [u8]) -> usize
-    ensures { IsPrefixLen result buffer.new }
+pub fn read<F: Read>(
+    rt: &HostRuntime,
+    file: &mut Option<F>,
+    told: &[u8],
+    buffer: &mut [u8],
+) -> usize
+    ensures in_bounds { IsPrefixLen result buffer.new }
+    ensures bytes { Consumes (left_of F.remaining file.old) (left_of F.remaining file.new) (take result buffer.new) }
 {
     match file {
         Some(file) => read_file(rt, file, told, buffer),
@@ -122,11 +135,13 @@ pub fn read(rt: &HostRuntime, file: &mut Option<File>, told: &[u8], buffer: &mut
     }
 }
 
-// Writes all of a text to standard output, or stops at the first write that takes nothing or fails.
-fn write_whole(rt: &HostRuntime, text: &[u8]) -> io::Result<()> {
+// Writes all of a text, or stops at the first write that takes nothing or fails.
+fn write_whole<W: Write>(out: &mut W, text: &[u8]) -> io::Result<()>
+    ensures { OnOk result (Appends (W.contents out.old) (W.contents out.new) text.now) }
+{
     let mut done: usize = 0;
     while done < text.len() {
-        let count = rt.write_some(&text[done..])?;
+        let count = out.write(&text[done..])?;
         if count == 0 {
             return Err(Error::from_raw_os_error(NO_ERROR));
         }
@@ -135,14 +150,15 @@ fn write_whole(rt: &HostRuntime, text: &[u8]) -> io::Result<()> {
     Ok(())
 }
 
-// Writes a text to standard output, and answers whether all of it was written; a failure is told. Where there is nothing to write, nothing fails.
-pub fn write(rt: &HostRuntime, told: &[u8], text: &[u8]) -> bool
-    ensures { length text.now ≡ 0 → result ≡ true }
+// Writes a text to the output, and answers whether all of it was written; a failure is told. Where there is nothing to write, nothing fails.
+pub fn write<W: Write>(rt: &HostRuntime, out: &mut W, told: &[u8], text: &[u8]) -> bool
+    ensures nothing { length text.now ≡ 0 → result ≡ true }
+    ensures bytes { result ≡ true → Appends (W.contents out.old) (W.contents out.new) text.now }
 {
     if text.len() == 0 {
         return true;
     }
-    match write_whole(rt, text) {
+    match write_whole(out, text) {
         Ok(()) => true,
         Err(error) => {
             fail(rt, told, error);

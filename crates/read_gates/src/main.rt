@@ -32,6 +32,7 @@ fn main(rt: HostRuntime) {
     let written = gates_text::text(&buffer[..size], &mut out);
     files::write(
         &rt,
+        &mut rt.stdout(),
         b"read_gates: output",
         report_turns::written_part(written, &out),
     );

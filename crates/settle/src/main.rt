@@ -44,6 +44,7 @@ fn write_opening(rt: &HostRuntime, sheet: &[u8]) -> Next {
     let written = report_opening::opening(sheet, &mut out);
     let is_written = files::write(
         rt,
+        &mut rt.stdout(),
         b"settle: output",
         report_turns::written_part(written, &out),
     );
@@ -59,6 +60,7 @@ fn write_lines<'a>(rt: &HostRuntime, sheet: &'a [u8], first: u32, lines: &'a [u8
     let written = report_pieces::piece(sheet, first, lines, &mut out);
     files::write(
         rt,
+        &mut rt.stdout(),
         b"settle: output",
         report_turns::written_part(written, &out),
     )

@@ -31,6 +31,7 @@ fn main(rt: HostRuntime) {
     let written = writer_text::text(&buffer[..size], &mut out);
     files::write(
         &rt,
+        &mut rt.stdout(),
         b"write_net: output",
         report_turns::written_part(written, &out),
     );
