@@ -166,3 +166,76 @@ pub fn write<W: Write>(rt: &HostRuntime, out: &mut W, told: &[u8], text: &[u8]) 
         }
     }
 }
+
+#[cfg(test)]
+mod tests {
+    use super::*;
+
+    // A file whose reads are first interrupted so often, then give so many bytes, one at a time, and then fail.
+    #[derive(Drop)]
+    struct Flaky {
+        interruptions: u32,
+        bytes: u32,
+    }
+
+    impl Read for Flaky {
+        fn read(&mut self, buf: &mut [u8]) -> io::Result<usize> {
+            if self.interruptions > 0 {
+                self.interruptions -= 1;
+                return Err(Error::from(ErrorKind::Interrupted));
+            }
+            if self.bytes == 0 || buf.len() == 0 {
+                return Err(Error::from(ErrorKind::Other));
+            }
+            self.bytes -= 1;
+            buf[0] = b'x';
+            Ok(1)
+        }
+    }
+
+    // A read is tried again 1000 times, and what was read before a failure counts.
+    #[test]
+    fn reads_what_comes_before_a_failure(rt: HostRuntime) {
+        for (interruptions, bytes, want) in [
+            (0, 0, 0),
+            (0, 3, 3),
+            (0, 9, 4),
+            (1000, 2, 2),
+            (1001, 2, 0),
+        ] {
+            let mut file = Some(Flaky {
+                interruptions,
+                bytes,
+            });
+            let mut buffer = [0u8; 4];
+            let size = read(&rt, &mut file, b"test", &mut buffer);
+            assert_eq!(rt; size, want, "at {interruptions} and {bytes}");
+        }
+    }
+
+    // What is written are all the bytes, as far as they are taken.
+    #[test]
+    fn writes_what_is_taken(rt: HostRuntime) {
+        let mut out = Cursor::new([0u8; 4]);
+        assert!(rt; write(&rt, &mut out, b"test", b""));
+        assert!(rt; write(&rt, &mut out, b"test", b"abc"));
+        assert!(rt; !write(&rt, &mut out, b"test", b"def"));
+        assert_eq!(rt; out.into_inner(), *b"abcd");
+    }
+
+    #[test]
+    fn missing_file_has_no_bytes(rt: HostRuntime) {
+        let mut file = open(&rt, "no such file", b"test");
+        let mut buffer = [0u8; 4];
+        assert!(rt; file.is_none());
+        assert_eq!(rt; read(&rt, &mut file, b"test", &mut buffer), 0);
+    }
+
+    // The system's words, with no number.
+    #[test]
+    fn words_of_an_error(rt: HostRuntime) {
+        let missing = without_number(b"No such file or directory (os error 2)");
+        assert!(rt; missing == b"No such file or directory".as_slice());
+        assert!(rt; without_number(b"other") == b"other".as_slice());
+    }
+}
