@@ -1,11 +1,15 @@
 //! How a case of the test programs is laid out in their input. Each number has a field of the widest kind. A case may bring the sheet for the cases after
 //! it, or a note that is printed as it stands. Numbers of their answers have a field each.
+#![tactic(auto)]
 
 ghost use Rattle.std.specs.Prelude.{◌≡◌};
 ghost use Rattle.sheet.specs.Line.{write_number};
 ghost use Rattle.cases.specs.Input.{part_of, number_at, data_of, next_of};
 
+mod streams;
+
 use sheet::{Field, Sheet};
+pub use streams::{at_most, print, print_number, read_input};
 
 #[derive(Clone, Copy)]
 pub struct Input;

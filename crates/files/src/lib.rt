@@ -1,85 +1,116 @@
 //! The files of a program. What cannot be opened, read or written is told on standard error; what cannot be opened or read counts as the end of the file.
+#![tactic(auto)]
 
-ghost use Rattle.std.specs.Prelude.{◌≤◌, ◌≡◌, true, length};
-ghost use Rattle.io.specs.Counts.{IsPrefixLen};
-ghost use Rattle.files.specs.Reads.{Opened, Within};
+ghost use Rattle.std.specs.Prelude.{◌≤◌, ◌≡◌, true, false, length, take, OnOk};
+ghost use Rattle.std.specs.Counts.{IsPrefixLen};
+ghost use Rattle.std.specs.Io.KnownBytes.{Appends, Consumes, ReadConsumes};
+ghost use Rattle.files.specs.Reads.{Opened, Within, descriptor, left_of};
 
-use libc::STDOUT_FILENO;
+use std::fs::File;
+use std::io::{Cursor, Error, ErrorKind, Read, Write};
+use std::os::fd::AsRawFd;
+use std::{fs, io};
 
 // How often a read that a signal interrupted is tried again; what is proved to end cannot try for ever.
 const MOST_TRIES: u32 = 1000;
 
-// What one read answers: so many bytes, none at the end of the file; or why there are none.
-#[derive(Clone, Copy)]
-enum Got {
-    Bytes(usize),
-    Interrupted,
-    Failed,
+// The system's number where nothing failed: its words for a write that takes nothing.
+const NO_ERROR: i32 = 0;
+
+// Room for the words that an error is printed with.
+const WORDS_BYTES: usize = 128;
+
+// The text of an error up to the number that std prints behind the system's words, as ` (os error 2)`.
+fn without_number(words: &[u8]) -> &[u8] {
+    match words.iter().rposition(|b| *b == b'(') {
+        Some(at) => &words[..at.saturating_sub(1)],
+        None => words,
+    }
 }
 
-// The answer for a file that could not be opened; descriptors are not negative.
-const NO_FILE: i32 = -1;
+// Tells an error on standard error: what failed, as the caller names it, and the system's words. Where that cannot be told, nothing is.
+fn fail(rt: &HostRuntime, told: &[u8], error: Error) {
+    let mut words = Cursor::new([0u8; WORDS_BYTES]);
+    let _ = write!(words, "{error}");
+    let size = (words.position() as usize).min(WORDS_BYTES);
+    let text = words.into_inner();
+    let out = rt.stderr();
+    let _ = Print::write_all(&out, told);
+    let _ = Print::write_all(&out, b": ");
+    let _ = Print::write_all(&out, without_number(&text[..size]));
+    let _ = Print::write_all(&out, b"\n");
+}
 
 // Opens a file for reading. What is told where that fails is the program's name and the file's.
-pub fn open<'a>(name: &'a [u8], told: &'a [u8]) -> i32
-    ensures { Opened result }
+pub fn open(rt: &HostRuntime, name: &str, told: &[u8]) -> Option<File>
+    ensures { Opened (descriptor result) }
 {
-    let file = os::open_read(name);
-    if file >= 0 {
-        return file;
+    match fs::open(rt, name) {
+        Ok(file) => {
+            if file.as_raw_fd() >= 0 {
+                return Some(file);
+            }
+            fail(rt, told, Error::from_raw_os_error(NO_ERROR));
+        }
+        Err(error) => fail(rt, told, error),
     }
-    os::fail(told);
-    NO_FILE
+    None
 }
 
-fn read_once(file: i32, buffer: &mut [u8]) -> Got
-    ensures { Within (length buffer.new) result }
+fn read_once<F: Read>(file: &mut F, buffer: &mut [u8]) -> io::Result<usize>
+    ensures within { Within (length buffer.new) result }
+    ensures bytes { ReadConsumes (F.remaining file.old) (F.remaining file.new) result buffer.new }
 {
-    let got = libc::read(file, buffer);
-    if got >= 0 {
-        return Got::Bytes(io::count(got, buffer));
-    }
-    if os::errno() == libc::EINTR {
-        return Got::Interrupted;
-    }
-    Got::Failed
+    file.read(buffer)
 }
 
-fn read_some(file: i32, buffer: &mut [u8]) -> Got
-    ensures { Within (length buffer.new) result }
+fn read_some<F: Read>(file: &mut F, buffer: &mut [u8]) -> io::Result<usize>
+    ensures within { Within (length buffer.new) result }
+    ensures bytes { ReadConsumes (F.remaining file.old) (F.remaining file.new) result buffer.new }
 {
     let tries = MOST_TRIES;
     let mut got = read_once(file, buffer);
     for _ in 0..tries {
-        let Got::Interrupted = got else {
+        if !is_interrupted(&got) {
             return got;
-        };
+        }
         got = read_once(file, buffer);
     }
     got
 }
 
-// How many bytes could be read; a failure is told.
-fn read_more<'a, 'b>(file: i32, told: &'a [u8], buffer: &'b mut [u8]) -> usize
-    ensures { result ≤ length buffer.new }
+// Whether a signal interrupted a read.
+fn is_interrupted(got: &io::Result<usize>) -> bool
+    ensures { OnOk got.now (result ≡ false) }
 {
-    let Got::Bytes(count) = read_some(file, buffer) else {
-        os::fail(told);
-        return 0;
-    };
-    count
+    match got {
+        Ok(_) => false,
+        Err(error) => error.kind() == ErrorKind::Interrupted,
+    }
 }
 
-// Reads until the buffer is full, the file ends or a read fails. A file that could not be opened has no bytes.
-pub fn read<'a, 'b>(file: i32, told: &'a [u8], buffer: &'b mut [u8]) -> usize
-    ensures { IsPrefixLen result buffer.new }
+// How many bytes could be read; a failure is told.
+fn read_more<F: Read>(rt: &HostRuntime, file: &mut F, told: &[u8], buffer: &mut [u8]) -> usize
+    ensures within { result ≤ length buffer.new }
+    ensures bytes { Consumes (F.remaining file.old) (F.remaining file.new) (take result buffer.new) }
 {
-    if file < 0 {
-        return io::count(0, buffer);
+    match read_some(file, buffer) {
+        Ok(count) => count,
+        Err(error) => {
+            fail(rt, told, error);
+            return 0;
+        }
     }
+}
+
+// Reads until the buffer is full, the file ends or a read fails.
+fn read_file<F: Read>(rt: &HostRuntime, file: &mut F, told: &[u8], buffer: &mut [u8]) -> usize
+    ensures in_bounds { IsPrefixLen result buffer.new }
+    ensures bytes { Consumes (F.remaining file.old) (F.remaining file.new) (take result buffer.new) }
+{
     let mut done: usize = 0;
     while done < buffer.len() {
-        let more = read_more(file, told, &mut buffer[done..]);
+        let more = read_more(rt, file, told, &mut buffer[done..]);
         if more == 0 {
             break;
         }
@@ -88,16 +119,123 @@ pub fn read<'a, 'b>(file: i32, told: &'a [u8], buffer: &'b mut [u8]) -> usize
     done
 }
 
-// Writes a text to standard output, and answers whether all of it was written; a failure is told. Where there is nothing to write, nothing fails.
-pub fn write<'a>(told: &'a [u8], text: &'a [u8]) -> bool
-    ensures { length text.now ≡ 0 → result ≡ true }
+// The same of a file that may not be there: one that could not be opened has no bytes.
+pub fn read<F: Read>(
+    rt: &HostRuntime,
+    file: &mut Option<F>,
+    told: &[u8],
+    buffer: &mut [u8],
+) -> usize
+    ensures in_bounds { IsPrefixLen result buffer.new }
+    ensures bytes { Consumes (left_of F.remaining file.old) (left_of F.remaining file.new) (take result buffer.new) }
+{
+    match file {
+        Some(file) => read_file(rt, file, told, buffer),
+        None => 0,
+    }
+}
+
+// Writes all of a text, or stops at the first write that takes nothing or fails.
+fn write_whole<W: Write>(out: &mut W, text: &[u8]) -> io::Result<()>
+    ensures { OnOk result (Appends (W.contents out.old) (W.contents out.new) text.now) }
+{
+    let mut done: usize = 0;
+    while done < text.len() {
+        let count = out.write(&text[done..])?;
+        if count == 0 {
+            return Err(Error::from_raw_os_error(NO_ERROR));
+        }
+        done += count;
+    }
+    Ok(())
+}
+
+// Writes a text to the output, and answers whether all of it was written; a failure is told. Where there is nothing to write, nothing fails.
+pub fn write<W: Write>(rt: &HostRuntime, out: &mut W, told: &[u8], text: &[u8]) -> bool
+    ensures nothing { length text.now ≡ 0 → result ≡ true }
+    ensures bytes { result ≡ true → Appends (W.contents out.old) (W.contents out.new) text.now }
 {
     if text.len() == 0 {
         return true;
     }
-    let is_written = io::write_all(STDOUT_FILENO, text);
-    if !is_written {
-        os::fail(told);
+    match write_whole(out, text) {
+        Ok(()) => true,
+        Err(error) => {
+            fail(rt, told, error);
+            false
+        }
     }
-    is_written
+}
+
+#[cfg(test)]
+mod tests {
+    use super::*;
+
+    // A file whose reads are first interrupted so often, then give so many bytes, one at a time, and then fail.
+    #[derive(Drop)]
+    struct Flaky {
+        interruptions: u32,
+        bytes: u32,
+    }
+
+    impl Read for Flaky {
+        fn read(&mut self, buf: &mut [u8]) -> io::Result<usize> {
+            if self.interruptions > 0 {
+                self.interruptions -= 1;
+                return Err(Error::from(ErrorKind::Interrupted));
+            }
+            if self.bytes == 0 || buf.len() == 0 {
+                return Err(Error::from(ErrorKind::Other));
+            }
+            self.bytes -= 1;
+            buf[0] = b'x';
+            Ok(1)
+        }
+    }
+
+    // A read is tried again 1000 times, and what was read before a failure counts.
+    #[test]
+    fn reads_what_comes_before_a_failure(rt: HostRuntime) {
+        for (interruptions, bytes, want) in [
+            (0, 0, 0),
+            (0, 3, 3),
+            (0, 9, 4),
+            (1000, 2, 2),
+            (1001, 2, 0),
+        ] {
+            let mut file = Some(Flaky {
+                interruptions,
+                bytes,
+            });
+            let mut buffer = [0u8; 4];
+            let size = read(&rt, &mut file, b"test", &mut buffer);
+            assert_eq!(rt; size, want, "at {interruptions} and {bytes}");
+        }
+    }
+
+    // What is written are all the bytes, as far as they are taken.
+    #[test]
+    fn writes_what_is_taken(rt: HostRuntime) {
+        let mut out = Cursor::new([0u8; 4]);
+        assert!(rt; write(&rt, &mut out, b"test", b""));
+        assert!(rt; write(&rt, &mut out, b"test", b"abc"));
+        assert!(rt; !write(&rt, &mut out, b"test", b"def"));
+        assert_eq!(rt; out.into_inner(), *b"abcd");
+    }
+
+    #[test]
+    fn missing_file_has_no_bytes(rt: HostRuntime) {
+        let mut file = open(&rt, "no such file", b"test");
+        let mut buffer = [0u8; 4];
+        assert!(rt; file.is_none());
+        assert_eq!(rt; read(&rt, &mut file, b"test", &mut buffer), 0);
+    }
+
+    // The system's words, with no number.
+    #[test]
+    fn words_of_an_error(rt: HostRuntime) {
+        let missing = without_number(b"No such file or directory (os error 2)");
+        assert!(rt; missing == b"No such file or directory".as_slice());
+        assert!(rt; without_number(b"other") == b"other".as_slice());
+    }
 }

@@ -1,12 +1,12 @@
 //! Runs the cases of standard input through the calls that give the program's text, and prints the text, or what it is like, before the case's note.
 //! tests/report_cases.py tells the numbers of a case and where each expected answer comes from.
+#![tactic(auto)]
 
 ghost use Rattle.std.specs.Prelude.{◌≤◌, ◌<◌, ◌≡◌, length};
-ghost use Rattle.io.specs.Counts.{IsPrefixLen};
+ghost use Rattle.std.specs.Counts.{IsPrefixLen};
 ghost use Rattle.output.specs.Program.{Onward};
 
-use cases::{Case, Input, data_of, next_case, number_at};
-use libc::{STDIN_FILENO, STDOUT_FILENO};
+use cases::{Case, Input, at_most, data_of, next_case, number_at, print, print_number, read_input};
 use output::{Next, Report, Written};
 use sheet::Sheet;
 
@@ -27,19 +27,19 @@ impl Lent {
 
 // The buffer for the input, and those before a call. Each clause tells the length, which lending a part needs.
 fn input_buffer() -> [u8; Input::MOST_BYTES]
-    ensures* { do ⌜ (← (⟦Input::MOST_BYTES⟧).entry) ≡ length result ⌝ }
+    ensures { Input.MOST_BYTES ≡ length result }
 {
     [0; Input::MOST_BYTES]
 }
 
 fn text_buffer() -> [u8; Lent::MOST_TEXT]
-    ensures* { do ⌜ (← (⟦Lent::MOST_TEXT⟧).entry) ≡ length result ⌝ }
+    ensures { Lent.MOST_TEXT ≡ length result }
 {
     [Lent::UNTOUCHED; Lent::MOST_TEXT]
 }
 
 fn jobs_buffer() -> [u8; Lent::MOST_JOBS]
-    ensures* { do ⌜ (← (⟦Lent::MOST_JOBS⟧).entry) ≡ length result ⌝ }
+    ensures { Lent.MOST_JOBS ≡ length result }
 {
     [0; Lent::MOST_JOBS]
 }
@@ -51,28 +51,28 @@ fn line_size(text: &[u8]) -> usize
     let mut i: usize = 0;
     while i < text.len() {
         if text[i] == b'\n' {
-            return io::count((i + 1) as isize, text);
+            return at_most(i + 1, text);
         }
         i += 1;
     }
-    io::count(i as isize, text)
+    at_most(i, text)
 }
 
 // How many bytes a text has, its first line and its last; all its lines are of one size.
-fn print_ends(text: &[u8]) {
+fn print_ends(rt: &HostRuntime, text: &[u8]) {
     let size = line_size(text);
     let last = text.len() - size;
-    io::print_decimal(STDOUT_FILENO, text.len() as u64);
-    io::write_all(STDOUT_FILENO, b"\n");
-    io::write_all(STDOUT_FILENO, &text[..size]);
-    io::write_all(STDOUT_FILENO, &text[last..]);
+    print_number(rt, text.len() as u64);
+    print(rt, b"\n");
+    print(rt, &text[..size]);
+    print(rt, &text[last..]);
 }
 
 // The first line of the output.
-fn print_opening(sheet: &[u8]) {
+fn print_opening(rt: &HostRuntime, sheet: &[u8]) {
     let mut out = text_buffer();
     let written = report_opening::opening(sheet, &mut out);
-    io::write_all(STDOUT_FILENO, report_turns::written_part(written, &out));
+    print(rt, report_turns::written_part(written, &out));
 }
 
 // The lines of the piece that begins with this job, counted from 1: as many as a piece has, or all that are left.
@@ -94,36 +94,42 @@ fn lines_from(jobs: &[u8], first: u32) -> &[u8] {
 }
 
 // Prints the text of a piece, whole or its ends; nothing where it has none.
-fn print_text(text: &[u8], whole: bool) {
+fn print_text(rt: &HostRuntime, text: &[u8], whole: bool) {
     if text.len() == 0 {
         return;
     }
     if whole {
-        io::write_all(STDOUT_FILENO, text);
+        print(rt, text);
     } else {
-        print_ends(text);
+        print_ends(rt, text);
     }
 }
 
 // Prints the text of the piece that begins with this job, and says what comes next, as the program does.
-fn print_piece<'a>(sheet: &'a [u8], jobs: &'a [u8], first: u32, whole: bool) -> Next
+fn print_piece<'a>(
+    rt: &HostRuntime,
+    sheet: &'a [u8],
+    jobs: &'a [u8],
+    first: u32,
+    whole: bool,
+) -> Next
     ensures { Onward first result }
 {
     let lines = lines_from(jobs, first);
     let mut out = text_buffer();
     let written = report_pieces::piece(sheet, first, lines, &mut out);
-    print_text(report_turns::written_part(written, &out), whole);
+    print_text(rt, report_turns::written_part(written, &out), whole);
     report_turns::after_piece(first, lines.len(), true)
 }
 
 // The lines of the jobs, piece by piece.
-fn print_pieces<'a>(sheet: &'a [u8], jobs: &'a [u8], whole: bool) {
+fn print_pieces<'a>(rt: &HostRuntime, sheet: &'a [u8], jobs: &'a [u8], whole: bool) {
     let mut next = Next::Piece(1);
     loop {
         let Next::Piece(first) = next else {
             return;
         };
-        next = print_piece(sheet, jobs, first, whole);
+        next = print_piece(rt, sheet, jobs, first, whole);
     }
 }
 
@@ -146,17 +152,17 @@ fn repeat<'a, 'b>(lines: &'a [u8], jobs: &'b mut [u8]) {
 fn size_at(cases: &[u8], at: usize, buffer: &[u8]) -> usize
     ensures { IsPrefixLen result buffer.now }
 {
-    io::count(number_at(cases, at) as isize, buffer)
+    at_most(number_at(cases, at) as usize, buffer)
 }
 
 // The pieces of as many bytes of jobs as the case at a place says, which repeat its data.
-fn print_many<'a>(cases: &'a [u8], at: usize, sheet: &'a [u8])
+fn print_many<'a>(rt: &HostRuntime, cases: &'a [u8], at: usize, sheet: &'a [u8])
     requires { at < length cases.now }
 {
     let mut jobs = jobs_buffer();
     repeat(data_of(cases, at), &mut jobs);
     let size = size_at(cases, at + Case::FIRST, &jobs);
-    print_pieces(sheet, &jobs[..size], false);
+    print_pieces(rt, sheet, &jobs[..size], false);
 }
 
 // 1 for a byte that is as before the call.
@@ -176,87 +182,93 @@ fn untouched_bytes(out: &[u8]) -> u64 {
 
 // What a call wrote to a lent buffer, how many bytes it says that it wrote and whether they are the last, or that the buffer is short, and how many bytes are
 // untouched.
-fn print_lent(written: Written, out: &[u8]) {
-    io::write_all(STDOUT_FILENO, report_turns::written_part(written, out));
+fn print_lent(rt: &HostRuntime, written: Written, out: &[u8]) {
+    print(rt, report_turns::written_part(written, out));
     match written {
         Written::Bytes(count) => {
-            io::print_decimal(STDOUT_FILENO, count as u64);
+            print_number(rt, count as u64);
         }
         Written::Last(count) => {
-            io::write_all(STDOUT_FILENO, b"last ");
-            io::print_decimal(STDOUT_FILENO, count as u64);
+            print(rt, b"last ");
+            print_number(rt, count as u64);
         }
         Written::Short => {
-            io::write_all(STDOUT_FILENO, b"short");
+            print(rt, b"short");
         }
     }
-    io::write_all(STDOUT_FILENO, b" ");
-    io::print_decimal(STDOUT_FILENO, untouched_bytes(out));
+    print(rt, b" ");
+    print_number(rt, untouched_bytes(out));
 }
 
 // The first line in a lent buffer.
-fn lend_opening<'a, 'b>(sheet: &'a [u8], out: &'b mut [u8]) {
+fn lend_opening<'a, 'b>(rt: &HostRuntime, sheet: &'a [u8], out: &'b mut [u8]) {
     let written = report_opening::opening(sheet, out);
-    print_lent(written, out);
+    print_lent(rt, written, out);
 }
 
 // A piece in a lent buffer.
-fn lend_piece<'a, 'b>(sheet: &'a [u8], first: u32, lines: &'a [u8], out: &'b mut [u8]) {
+fn lend_piece<'a, 'b>(
+    rt: &HostRuntime,
+    sheet: &'a [u8],
+    first: u32,
+    lines: &'a [u8],
+    out: &'b mut [u8],
+) {
     let written = report_pieces::piece(sheet, first, lines, out);
-    print_lent(written, out);
+    print_lent(rt, written, out);
 }
 
 // The first line, or else a piece from the job on that the case at a place names, in a buffer of the size that it gives.
-fn print_in_buffer<'a>(cases: &'a [u8], at: usize, sheet: &'a [u8])
+fn print_in_buffer<'a>(rt: &HostRuntime, cases: &'a [u8], at: usize, sheet: &'a [u8])
     requires { at < length cases.now }
 {
     let first = number_at(cases, at + Case::SECOND);
     let mut out = text_buffer();
     let size = size_at(cases, at + Case::FIRST, &out);
     if cases[at] == b'O' {
-        lend_opening(sheet, &mut out[..size]);
+        lend_opening(rt, sheet, &mut out[..size]);
     } else {
-        lend_piece(sheet, first, data_of(cases, at), &mut out[..size]);
+        lend_piece(rt, sheet, first, data_of(cases, at), &mut out[..size]);
     }
 }
 
 // The answer of the case at a place, by its kind, for a sheet.
-fn print_answer<'a>(cases: &'a [u8], at: usize, sheet: &'a [u8])
+fn print_answer<'a>(rt: &HostRuntime, cases: &'a [u8], at: usize, sheet: &'a [u8])
     requires { at < length cases.now }
 {
     match cases[at] {
-        b'N' => print_opening(sheet),
-        b'J' => print_pieces(sheet, data_of(cases, at), true),
-        b'M' => print_many(cases, at, sheet),
-        _ => print_in_buffer(cases, at, sheet),
+        b'N' => print_opening(rt, sheet),
+        b'J' => print_pieces(rt, sheet, data_of(cases, at), true),
+        b'M' => print_many(rt, cases, at, sheet),
+        _ => print_in_buffer(rt, cases, at, sheet),
     }
 }
 
 // Prints a note as it stands, which ends the line of the case before it; of any other case the answer, for the sheet of the case that brought one last.
-fn print_case(cases: &[u8], at: usize, from: usize)
+fn print_case(rt: &HostRuntime, cases: &[u8], at: usize, from: usize)
     requires { at < length cases.now }
 {
     if cases[at] == b'#' {
-        io::write_all(STDOUT_FILENO, data_of(cases, at));
+        print(rt, data_of(cases, at));
     } else {
-        print_answer(cases, at, data_of(cases, from));
+        print_answer(rt, cases, at, data_of(cases, from));
     }
 }
 
-fn run_cases(cases: &[u8]) {
+fn run_cases(rt: &HostRuntime, cases: &[u8]) {
     let mut at: usize = 0;
     let mut from: usize = 0;
     while at < cases.len() {
         if cases[at] == b'N' {
             from = at;
         }
-        print_case(cases, at, from);
+        print_case(rt, cases, at, from);
         at = next_case(cases, at);
     }
 }
 
-fn main() {
+fn main(rt: HostRuntime) {
     let mut buffer = input_buffer();
-    let n = io::read_full(STDIN_FILENO, &mut buffer);
-    run_cases(&buffer[..n]);
+    let n = read_input(&rt, &mut buffer);
+    run_cases(&rt, &buffer[..n]);
 }

@@ -1,12 +1,12 @@
 //! Runs the cases of standard input through the reader, the one-line call and the job line, each in the width in force and in others, and through the
 //! writer of a field, and prints each answer beside the case's note. tests/sheet_cases.py tells the layout of a case and where each expected answer
 //! comes from.
+#![tactic(auto)]
 
 ghost use Rattle.std.specs.Prelude.{◌<◌, ◌≡◌, length};
 ghost use Rattle.sheet.specs.Limits.{ReadColumns};
 
-use cases::{Case, Input, data_of, next_case, number_at, number_text};
-use libc::{STDIN_FILENO, STDOUT_FILENO};
+use cases::{Case, Input, data_of, next_case, number_at, number_text, print, read_input};
 use sheet::{JobLine, Reading, Sheet};
 
 // The buffer that a field is written to, and what it holds before.
@@ -16,7 +16,7 @@ const UNTOUCHED: u8 = b'?';
 
 // The buffer for the input. The clause tells its length, which lending a part needs.
 fn input_buffer() -> [u8; Input::MOST_BYTES]
-    ensures* { do ⌜ (← (⟦Input::MOST_BYTES⟧).entry) ≡ length result ⌝ }
+    ensures { Input.MOST_BYTES ≡ length result }
 {
     [0; Input::MOST_BYTES]
 }
@@ -28,9 +28,9 @@ fn field_buffer() -> [u8; FIELD_BUFFER]
 }
 
 // A number in the columns of a field.
-fn print_column(n: u64) {
+fn print_column(rt: &HostRuntime, n: u64) {
     let text = number_text(n);
-    io::write_all(STDOUT_FILENO, &text);
+    print(rt, &text);
 }
 
 // The buffer with a number in its first columns; untouched where it has not so many.
@@ -45,60 +45,60 @@ fn field_in(n: u64, columns: usize) -> [u8; FIELD_BUFFER]
 }
 
 // A number in so many columns, and the rest of the buffer.
-fn print_field(n: u64, columns: usize) {
+fn print_field(rt: &HostRuntime, n: u64, columns: usize) {
     let text = field_in(n, columns);
-    io::write_all(STDOUT_FILENO, &text);
+    print(rt, &text);
 }
 
 // A sheet: number, place, and whether the record is one.
-fn print_reading(reading: Reading) {
+fn print_reading(rt: &HostRuntime, reading: Reading) {
     let net = reading.net;
-    print_column(reading.answer.number as u64);
-    print_column(reading.answer.place as u64);
-    print_column(if record::is_record(net) { 1 } else { 0 });
+    print_column(rt, reading.answer.number as u64);
+    print_column(rt, reading.answer.place as u64);
+    print_column(rt, if record::is_record(net) { 1 } else { 0 });
 }
 
 // Bytes that are handed back: how many, and these.
-fn print_part(part: &[u8]) {
-    print_column(part.len() as u64);
-    io::write_all(STDOUT_FILENO, part);
+fn print_part(rt: &HostRuntime, part: &[u8]) {
+    print_column(rt, part.len() as u64);
+    print(rt, part);
 }
 
 // One line of a sheet: number, and its bytes.
-fn print_line(sheet: &[u8], n: usize) {
-    print_column(lines::line_answer(sheet, n) as u64);
-    print_part(lines::line(sheet, n));
+fn print_line(rt: &HostRuntime, sheet: &[u8], n: usize) {
+    print_column(rt, lines::line_answer(sheet, n) as u64);
+    print_part(rt, lines::line(sheet, n));
 }
 
 // A job line: 0 and its three numbers, or 46 and zeros.
-fn print_job(bytes: &[u8]) {
+fn print_job(rt: &HostRuntime, bytes: &[u8]) {
     match line_values::job(bytes) {
         JobLine::Asked(old, new, start) => {
-            print_column(0);
-            print_column(old as u64);
-            print_column(new as u64);
-            print_column(start as u64);
+            print_column(rt, 0);
+            print_column(rt, old as u64);
+            print_column(rt, new as u64);
+            print_column(rt, start as u64);
         }
         JobLine::Refused => {
-            print_column(46);
-            print_column(0);
-            print_column(0);
-            print_column(0);
+            print_column(rt, 46);
+            print_column(rt, 0);
+            print_column(rt, 0);
+            print_column(rt, 0);
         }
     }
 }
 
 // A job line of another width: its three numbers in a field of the buffer each, or 46.
-fn print_job_in(bytes: &[u8], columns: usize)
+fn print_job_in(rt: &HostRuntime, bytes: &[u8], columns: usize)
     requires { ReadColumns columns }
 {
     match line_values::job_in(bytes, columns) {
         JobLine::Asked(old, new, start) => {
-            print_field(old as u64, columns);
-            print_field(new as u64, columns);
-            print_field(start as u64, columns);
+            print_field(rt, old as u64, columns);
+            print_field(rt, new as u64, columns);
+            print_field(rt, start as u64, columns);
         }
-        JobLine::Refused => print_column(46),
+        JobLine::Refused => print_column(rt, 46),
     }
 }
 
@@ -117,44 +117,51 @@ fn columns_at(cases: &[u8], at: usize) -> usize
 }
 
 // A note, which ends the line of the case before it.
-fn print_note(note: &[u8]) {
-    io::write_all(STDOUT_FILENO, note);
+fn print_note(rt: &HostRuntime, note: &[u8]) {
+    print(rt, note);
 }
 
 // The answer of the case at a place, by its kind.
-fn print_answer(cases: &[u8], at: usize)
+fn print_answer(rt: &HostRuntime, cases: &[u8], at: usize)
     requires { at < length cases.now }
 {
     let bytes = data_of(cases, at);
     match cases[at] {
-        b'#' => print_note(bytes),
-        b'S' => print_reading(reader::read(bytes)),
-        b's' => print_reading(reader::read_in(bytes, columns_at(cases, at + Case::FIRST))),
-        b'L' => print_line(bytes, number_at(cases, at + Case::FIRST) as usize),
-        b'l' => print_part(lines::line_in(
-            bytes,
-            columns_at(cases, at + Case::FIRST),
-            number_at(cases, at + Case::SECOND) as usize,
-        )),
-        b'J' => print_job(bytes),
-        b'j' => print_job_in(bytes, columns_at(cases, at + Case::FIRST)),
+        b'#' => print_note(rt, bytes),
+        b'S' => print_reading(rt, reader::read(bytes)),
+        b's' => print_reading(
+            rt,
+            reader::read_in(bytes, columns_at(cases, at + Case::FIRST)),
+        ),
+        b'L' => print_line(rt, bytes, number_at(cases, at + Case::FIRST) as usize),
+        b'l' => print_part(
+            rt,
+            lines::line_in(
+                bytes,
+                columns_at(cases, at + Case::FIRST),
+                number_at(cases, at + Case::SECOND) as usize,
+            ),
+        ),
+        b'J' => print_job(rt, bytes),
+        b'j' => print_job_in(rt, bytes, columns_at(cases, at + Case::FIRST)),
         _ => print_field(
+            rt,
             number_at(cases, at + Case::FIRST) as u64,
             number_at(cases, at + Case::SECOND) as usize,
         ),
     }
 }
 
-fn run_cases(cases: &[u8]) {
+fn run_cases(rt: &HostRuntime, cases: &[u8]) {
     let mut at: usize = 0;
     while at < cases.len() {
-        print_answer(cases, at);
+        print_answer(rt, cases, at);
         at = next_case(cases, at);
     }
 }
 
-fn main() {
+fn main(rt: HostRuntime) {
     let mut buffer = input_buffer();
-    let n = io::read_full(STDIN_FILENO, &mut buffer);
-    run_cases(&buffer[..n]);
+    let n = read_input(&rt, &mut buffer);
+    run_cases(&rt, &buffer[..n]);
 }

@@ -1,12 +1,12 @@
 //! Runs the cases of standard input through the writer of a record's sheet, in the agreed order and in the record's own, and prints each answer with the
 //! whole lent buffer before the case's note; and through the text of the program `write_net`. tests/writer_cases.py tells the numbers of a case and where
 //! each expected answer comes from.
+#![tactic(auto)]
 
 ghost use Rattle.std.specs.Prelude.{◌<◌, ◌≡◌, length};
-ghost use Rattle.io.specs.Counts.{IsPrefixLen};
+ghost use Rattle.std.specs.Counts.{IsPrefixLen};
 
-use cases::{Case, Input, data_of, next_case, number_at, number_text};
-use libc::{STDIN_FILENO, STDOUT_FILENO};
+use cases::{Case, Input, at_most, data_of, next_case, number_at, number_text, print, read_input};
 use net::Net;
 use sheet::{Answer, Sheet};
 use writer::Written;
@@ -41,69 +41,69 @@ impl Part {
 
 // The buffer for the input, and the one before a call. Each clause tells the length, which lending a part needs.
 fn input_buffer() -> [u8; Input::MOST_BYTES]
-    ensures* { do ⌜ (← (⟦Input::MOST_BYTES⟧).entry) ≡ length result ⌝ }
+    ensures { Input.MOST_BYTES ≡ length result }
 {
     [0; Input::MOST_BYTES]
 }
 
 fn sheet_buffer() -> [u8; Lent::MOST_BYTES]
-    ensures* { do ⌜ (← (⟦Lent::MOST_BYTES⟧).entry) ≡ length result ⌝ }
+    ensures { Lent.MOST_BYTES ≡ length result }
 {
     [Lent::UNTOUCHED; Lent::MOST_BYTES]
 }
 
 // A number in the columns of a field.
-fn print_column(n: u64) {
+fn print_column(rt: &HostRuntime, n: u64) {
     let text = number_text(n);
-    io::write_all(STDOUT_FILENO, &text);
+    print(rt, &text);
 }
 
 // A number and its place.
-fn print_place(answer: Answer) {
-    print_column(answer.number as u64);
-    print_column(answer.place as u64);
+fn print_place(rt: &HostRuntime, answer: Answer) {
+    print_column(rt, answer.number as u64);
+    print_column(rt, answer.place as u64);
 }
 
 // What a call answers: number, place and length; then, from the next line on, the whole buffer that it was lent.
-fn print_written(written: Written, buffer: &[u8]) {
-    print_place(written.answer);
-    print_column(written.length as u64);
-    io::write_all(STDOUT_FILENO, b"\n");
-    io::write_all(STDOUT_FILENO, buffer);
+fn print_written(rt: &HostRuntime, written: Written, buffer: &[u8]) {
+    print_place(rt, written.answer);
+    print_column(rt, written.length as u64);
+    print(rt, b"\n");
+    print(rt, buffer);
 }
 
-fn print_agreed(net: Net, buffer: &mut [u8]) {
+fn print_agreed(rt: &HostRuntime, net: Net, buffer: &mut [u8]) {
     let written = writer_sheet::write(net, buffer);
-    print_written(written, buffer);
+    print_written(rt, written, buffer);
 }
 
-fn print_own(net: Net, buffer: &mut [u8]) {
+fn print_own(rt: &HostRuntime, net: Net, buffer: &mut [u8]) {
     let written = writer_sheet::write_in_own_order(net, buffer);
-    print_written(written, buffer);
+    print_written(rt, written, buffer);
 }
 
 // The text of the program for the bytes of a sheet: how many bytes the program writes, none where the buffer is short; then, from the next line on, these.
-fn print_text<'a, 'b>(sheet: &'a [u8], buffer: &'b mut [u8]) {
+fn print_text<'a, 'b>(rt: &HostRuntime, sheet: &'a [u8], buffer: &'b mut [u8]) {
     let written = writer_text::text(sheet, buffer);
     let text = report_turns::written_part(written, buffer);
-    print_column(text.len() as u64);
-    io::write_all(STDOUT_FILENO, b"\n");
-    io::write_all(STDOUT_FILENO, text);
+    print_column(rt, text.len() as u64);
+    print(rt, b"\n");
+    print(rt, text);
 }
 
 // The text in a buffer of the size that the case at a place gives.
-fn run_text<'a>(cases: &'a [u8], at: usize, sheet: &'a [u8])
+fn run_text<'a>(rt: &HostRuntime, cases: &'a [u8], at: usize, sheet: &'a [u8])
     requires { at < length cases.now }
 {
     let mut buffer = sheet_buffer();
     let size = size_at(cases, at + Case::FIRST, &buffer);
-    print_text(sheet, &mut buffer[..size]);
+    print_text(rt, sheet, &mut buffer[..size]);
 }
 
 // The record that is read from what is written in the agreed order.
 fn read_back(net: Net, buffer: &mut [u8]) -> Net {
     let written = writer_sheet::write(net, buffer);
-    let size = io::count(written.length as isize, buffer);
+    let size = at_most(written.length as usize, buffer);
     let reading = reader::read(&buffer[..size]);
     reading.net
 }
@@ -166,7 +166,7 @@ fn altered(cases: &[u8], at: usize, net: Net) -> Net
 fn size_at(cases: &[u8], at: usize, buffer: &[u8]) -> usize
     ensures { IsPrefixLen result buffer.now }
 {
-    io::count(number_at(cases, at) as isize, buffer)
+    at_most(number_at(cases, at) as usize, buffer)
 }
 
 // The record that the case at a place is about: the one that was read, with what the case alters; for a case that writes once more, what was read back.
@@ -182,56 +182,56 @@ fn record_of(cases: &[u8], at: usize, net: Net) -> Net
 }
 
 // The writing that the case at a place asks for.
-fn run_writing(cases: &[u8], at: usize, net: Net)
+fn run_writing(rt: &HostRuntime, cases: &[u8], at: usize, net: Net)
     requires { at < length cases.now }
 {
     let record = record_of(cases, at, net);
     let mut buffer = sheet_buffer();
     let size = size_at(cases, at + Case::FIRST, &buffer);
     if cases[at] == b'O' {
-        print_own(record, &mut buffer[..size]);
+        print_own(rt, record, &mut buffer[..size]);
     } else {
-        print_agreed(record, &mut buffer[..size]);
+        print_agreed(rt, record, &mut buffer[..size]);
     }
 }
 
 // The answer of the case at a place, by its kind, for a sheet.
-fn print_answer<'a>(cases: &'a [u8], at: usize, sheet: &'a [u8])
+fn print_answer<'a>(rt: &HostRuntime, cases: &'a [u8], at: usize, sheet: &'a [u8])
     requires { at < length cases.now }
 {
     let reading = reader::read(sheet);
     match cases[at] {
-        b'N' => print_place(reading.answer),
-        b'T' => run_text(cases, at, sheet),
-        _ => run_writing(cases, at, reading.net),
+        b'N' => print_place(rt, reading.answer),
+        b'T' => run_text(rt, cases, at, sheet),
+        _ => run_writing(rt, cases, at, reading.net),
     }
 }
 
 // Prints a note as it stands, which ends the line of the case before it; of any other case the answer, for the sheet of the case that brought one last.
-fn print_case(cases: &[u8], at: usize, from: usize)
+fn print_case(rt: &HostRuntime, cases: &[u8], at: usize, from: usize)
     requires { at < length cases.now }
 {
     if cases[at] == b'#' {
-        io::write_all(STDOUT_FILENO, data_of(cases, at));
+        print(rt, data_of(cases, at));
     } else {
-        print_answer(cases, at, data_of(cases, from));
+        print_answer(rt, cases, at, data_of(cases, from));
     }
 }
 
-fn run_cases(cases: &[u8]) {
+fn run_cases(rt: &HostRuntime, cases: &[u8]) {
     let mut at: usize = 0;
     let mut from: usize = 0;
     while at < cases.len() {
         if cases[at] == b'N' {
             from = at;
         }
-        print_case(cases, at, from);
+        print_case(rt, cases, at, from);
         at = next_case(cases, at);
     }
 }
 
-fn main() {
+fn main(rt: HostRuntime) {
     let mut buffer = input_buffer();
-    let n = io::read_full(STDIN_FILENO, &mut buffer);
-    run_cases(&buffer[..n]);
+    let n = read_input(&rt, &mut buffer);
+    run_cases(&rt, &buffer[..n]);
 }

@@ -1,0 +1,9 @@
+-- What was read so far is within the buffer; each turn reads more.
+use Rattle.std.proofs.Common.{◌≤◌, ◌-◌, length}
+use Rattle.cases.proofs.streams.read_input.Given as goal
+
+abbrev pub invariant-loop-done : goal.invariant-loop-done
+invariant-loop-done l = l.done ≤ length l.buffer
+
+abbrev pub decreases-loop-done : goal.decreases-loop-done
+decreases-loop-done l = length l.initial.buffer - l.done
