@@ -92,7 +92,7 @@ module _ {M N : Net} (s : SameNet M N) (valid-m : valid M ≡ true) (valid-n : v
   pub same_behaviour : BehavesAs M N
   same_behaviour = record {
     letters = s.letter_count;
-    too_many_key_nodes = same_keys s;
+    key_nodes = same_keys s;
     storage = same_storage (same_among s);
     excitations = same-excitation s;
     c1 = same-place_c1 s;

@@ -23,7 +23,7 @@ use Rattle.sheet.proofs.ReadLaws.{valid_iff_accepted}
 use Rattle.sheet.proofs.SheetRowLaws.{sheet_zero, sheet_number, sheet_refused, sheet_accepted}
 use Rattle.sheet.proofs.Outcome.{outcome}
 use Rattle.sheet.proofs.LineLaws.{line-found, line_missing, line_empty}
-use Rattle.sheet.proofs.JobLaws.{job_number_lem as line_Refused}
+use Rattle.sheet.proofs.JobLaws.{job_number_lem as line_refused}
 use Rattle.soundness.specs.declared.Excited.{Excited}
 use Rattle.soundness.specs.declared.Excited.TheVariants.{Value, Refused as NoValue}
 use Rattle.soundness.specs.Excited.{excitation_rows, excited_of, excited_number, excited_place}
@@ -64,7 +64,7 @@ demand1_line sheet n = (line-found field_width sheet n, line_missing field_width
 
 -- a job line: 46 exactly if it is not the bytes of 4, A, B, q, 0
 pub demand1_job_line : (line : List ℕ) → (job_number (job_of line) ≡ 46) ↔ ((A B q : ℕ) → ¬ JobBytes line A B q)
-demand1_job_line = line_Refused field_width (omega arith)
+demand1_job_line = line_refused field_width (omega arith)
 
 -- ---- the verdict, the number of key nodes, and the excitation of one vertex
 

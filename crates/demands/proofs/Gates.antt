@@ -42,7 +42,7 @@ gates_kept sheet N e =
         λ o. let r = (accepted_outputs sheet N e y).0 o in (r.0, record { below = r.1; at = r.2 }),
         λ r. (accepted_outputs sheet N e y).1 (r.0, r.1.below, r.1.at),
       );
-      too_many_key_nodes = λ y k. (accepted_outputs sheet N e y).1 (accepted-keys sheet N e y k);
+      key_nodes = λ y k. (accepted_outputs sheet N e y).1 (accepted-keys sheet N e y k);
       by_formula = λ a q y g o. rw (sym o.at) (accepted-formula sheet N e a q g o.below);
       well_formed = w;
       verdict = sound N v w;

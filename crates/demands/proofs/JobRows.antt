@@ -70,7 +70,9 @@ module _ (N : Net) where
   job_numbers (Asked A B q) (later _ (here _)) = (lit≤ tt, lit< tt)
   job_numbers (Asked A B q) (later _ (later _ (here _))) = (lit≤ tt, lit< tt)
   job_numbers (Asked A B q) (later _ (later _ (later _ (here _)))) = (lit≤ tt, lit< tt)
+  job_numbers (Asked A B q) (later _ (later _ (later _ (later _ beyond)))) = elim beyond [ ]
   job_numbers Refused (here _) = (lit≤ tt, lit< tt)
+  job_numbers Refused (later _ beyond) = elim beyond [ ]
 
   -- what a job is answered has fewer digits than a field has columns
   pub job_answer_small : (j : JobLine) {x : ℕ} → Answers (job_line_rows N j) (answer x 0) → x < 10 ^ (field_width - 1)

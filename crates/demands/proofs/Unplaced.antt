@@ -15,6 +15,7 @@ pub data Unplaced : List Row → Type 0 where
   a_row : {n : ℕ} {rows : List Row} (condition : Bool) → Unplaced rows → Unplaced (row n (when condition) ∷ rows)
 
 place_0 : {rows : List Row} {n p : ℕ} → Unplaced rows → First rows n p → p ≡ 0
+place_0 no_row none = elim none [ ]
 place_0 (a_row b u) (here {p = p} e) = ((when_some b p).0 e).1
 place_0 (a_row b u) (later _ f) = place_0 u f
 

@@ -33,7 +33,7 @@ pub record OutputOf (sheet : Bytes) (y g : ℕ) : Type 0 where
 pub record GatesKept (sheet : Bytes) (N : Net) : Type 0 where
   pub listed : (b : Bytes) × (read_sheet b ≡ accepted N)
   pub outputs : (y : ℕ) → (is_output N y ≡ true) ↔ ((g : ℕ) × OutputOf sheet y g)
-  pub too_many_key_nodes : (y : ℕ) → is_key N y ≡ true → is_output N y ≡ true
+  pub key_nodes : (y : ℕ) → is_key N y ≡ true → is_output N y ≡ true
   pub by_formula : (a : InputState) (q : KeyState) (y g : ℕ) → OutputOf sheet y g → excitation N a q y ≡ gate_value N a q (gate_from sheet g)
   pub well_formed : WellFormed N
   pub verdict : verdict_of N ≡ answer 0 0

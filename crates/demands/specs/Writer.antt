@@ -36,7 +36,7 @@ bytes_of W = take W.length W.buffer
 -- places if at all and the same verdict, the same passes, and the same from settling and from a batch, refusals included
 pub record BehavesAs (M N : Net) : Type 0 where
   pub letters : M.letter_count ≡ N.letter_count
-  pub too_many_key_nodes : keys M ≡ keys N
+  pub key_nodes : keys M ≡ keys N
   pub storage : (y : ℕ) → is_storage M y ≡ is_storage N y
   pub excitations : (a : InputState) (q : KeyState) (y : ℕ) → is_storage M y ≡ true → excitation M a q y ≡ excitation N a q y
   pub c1 : place_c1 M ≡ place_c1 N

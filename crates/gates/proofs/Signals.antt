@@ -20,7 +20,7 @@ use Rattle.net.proofs.Components.{is_signal_iff}
 use Rattle.gates.specs.declared.Gate.{Gate}
 use Rattle.gates.specs.Limits.{most_gates}
 use Rattle.gates.specs.Gates.{gate_net}
-use Rattle.gates.proofs.Vertices.{vertex_at_lem, VertexCase, no_vertex_lem, a_rail, an_output, an_inner, vertex_case}
+use Rattle.gates.proofs.Vertices.{vertex_at_lem, VertexCase, not_a_vertex, a_rail, an_output, an_inner, vertex_case}
 use Rattle.gates.proofs.Patterns.{alone, first_symbol, second_symbol, symbol_for, pattern-fits, letter1, letter2}
 use Rattle.gates.proofs.Located.{place_at, pattern_edge}
 use Rattle.net.proofs.Copies.{LinksKept, walk_back}
@@ -60,7 +60,7 @@ module _ (G : ℕ) (gate : ℕ → Gate) (L : ℕ) (few : G ≤ most_gates) wher
   input_fixed x i = go (vertex_case G gate L few x)
     where
       go : VertexCase G gate L few x → is_variable (decode (vertex_at N x).label) ≡ false
-      go (no_vertex_lem f) = absurd (not_both _ i (f 0))
+      go (not_a_vertex f) = absurd (not_both _ i (f 0))
       go (a_rail (inl e) f) = rw (e, vertex_at_lem G gate L few 1 (omega arith) (omega arith))
       go (a_rail (inr e) f) = rw (e, vertex_at_lem G gate L few 2 (omega arith) (omega arith))
       go (an_output l h f) = absurd (not_both _ i (f 0))

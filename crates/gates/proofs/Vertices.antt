@@ -110,13 +110,13 @@ module _ (G : ℕ) (gate : ℕ → Gate) where
     -- ---- what a number of a vertex is
 
     pub data VertexCase (v : ℕ) : Type 0 where
-      no_vertex_lem : ((r : ℕ) → has_role N v r ≡ false) → VertexCase v
+      not_a_vertex : ((r : ℕ) → has_role N v r ≡ false) → VertexCase v
       a_rail : (v ≡ 1) ⊎ (v ≡ 2) → ((r : ℕ) → has_role N v r ≡ eqb 0 r) → VertexCase v
       an_output : first_output ≤ v → v ≤ high + G → ((r : ℕ) → has_role N v r ≡ eqb 2 r) → VertexCase v
       an_inner : output_at G ≤ v → v ≤ count → ((r : ℕ) → has_role N v r ≡ eqb 1 r) → VertexCase v
 
     pub vertex_case : (v : ℕ) → VertexCase v
-    vertex_case zero = no_vertex_lem role_zero
+    vertex_case zero = not_a_vertex role_zero
     vertex_case (suc zero) = a_rail (inl refl) role_low
     vertex_case (suc (suc zero)) = a_rail (inr refl) role_high
     vertex_case (suc (suc (suc i))) =
@@ -127,4 +127,4 @@ module _ (G : ℕ) (gate : ℕ → Gate) where
         let l = ltb-false i G t in
         by_test (leb v count)
         (λ s. let h = leb-true v count s in an_inner (omega arith) h (λ r. role_inner v r (omega arith) h))
-        (λ s. no_vertex_lem (λ r. role_outside v r (leb-false v count s))))
+        (λ s. not_a_vertex (λ r. role_outside v r (leb-false v count s))))

@@ -16,7 +16,7 @@ use Rattle.net.proofs.Values.{input_of_lem}
 use Rattle.gates.specs.declared.Gate.{Gate}
 use Rattle.gates.specs.Limits.{most_gates}
 use Rattle.gates.specs.Gates.{has_inner, output_at, inners_before, gate_net}
-use Rattle.gates.proofs.Vertices.{VertexCase, no_vertex_lem, a_rail, an_output, an_inner, vertex_case}
+use Rattle.gates.proofs.Vertices.{VertexCase, not_a_vertex, a_rail, an_output, an_inner, vertex_case}
 use Rattle.gates.proofs.Patterns.{alone, pattern-fits, alone-output, alone-inner}
 use Rattle.gates.proofs.Located.{place_at, image_at, pattern_edge, located}
 use Rattle.gates.proofs.Placing.{storage_at}
@@ -37,7 +37,7 @@ module _ (G : ℕ) (gate : ℕ → Gate) (L : ℕ) (few : G ≤ most_gates) wher
   no_input_storage v i s = go (vertex_case G gate L few v)
     where
       go : VertexCase G gate L few v → ⊥
-      go (no_vertex_lem f) = not_both _ i (f 0)
+      go (not_a_vertex f) = not_both _ i (f 0)
       go (a_rail e f) = two_roles v s (λ h. not_both _ h (f 1)) (λ h. not_both _ h (f 2))
       go (an_output l h f) = not_both _ i (f 0)
       go (an_inner l h f) = not_both _ i (f 0)
@@ -55,7 +55,7 @@ module _ (G : ℕ) (gate : ℕ → Gate) (L : ℕ) (few : G ≤ most_gates) wher
   storage_place y s = go (vertex_case G gate L few y)
     where
       go : VertexCase G gate L few y → Place y
-      go (no_vertex_lem f) = two_roles y s (λ h. absurd (not_both _ h (f 1))) (λ h. absurd (not_both _ h (f 2)))
+      go (not_a_vertex f) = two_roles y s (λ h. absurd (not_both _ h (f 1))) (λ h. absurd (not_both _ h (f 2)))
       go (a_rail e f) = two_roles y s (λ h. absurd (not_both _ h (f 1))) (λ h. absurd (not_both _ h (f 2)))
       go (an_output l h f) = record { gate_of = y - 3; below = omega arith; vertex = 3; storage = alone-output (gate (y - 3)); at = omega arith }
       go (an_inner l h f) =
@@ -73,7 +73,7 @@ module _ (G : ℕ) (gate : ℕ → Gate) (L : ℕ) (few : G ≤ most_gates) wher
   output_gate y o = go (vertex_case G gate L few y)
     where
       go : VertexCase G gate L few y → (g : ℕ) × (g < G) × (output_at g ≡ y)
-      go (no_vertex_lem f) = absurd (not_both _ o (f 2))
+      go (not_a_vertex f) = absurd (not_both _ o (f 2))
       go (a_rail e f) = absurd (not_both _ o (f 2))
       go (an_output l h f) = (y - 3, omega arith, omega arith)
       go (an_inner l h f) = absurd (not_both _ o (f 2))

@@ -19,7 +19,7 @@ use Rattle.sheet.specs.Record.{accepted}
 use Rattle.sheet.specs.declared.Reading.{Reading}
 use Rattle.sheet.specs.Reading.{read_sheet}
 use Rattle.sheet.specs.Outcome.{Listed, Outcome}
-use Rattle.sheet.specs.Outcome.Listed.{size, fields, at_header_line, lines, at_vertex_line, at_edge_line, partner, at_key_node, signals}
+use Rattle.sheet.specs.Outcome.Listed.{size, fields, at_header_line, lines, at_vertex_line, at_edge_line, partner, key_nodes, signals}
 use Rattle.sheet.specs.Outcome.Outcome.{accept, refuse}
 use Rattle.sheet.proofs.Outcome.{outcome, accepted-at_zero}
 use Rattle.settlements.specs.Batch.{job_count}
@@ -84,7 +84,7 @@ listed_ends lines = refl
 listed_ends (at_vertex_line _ _ _) = refl
 listed_ends (at_edge_line _ _ _) = refl
 listed_ends (partner _ _ _) = refl
-listed_ends (at_key_node _ _ _) = refl
+listed_ends (key_nodes _ _ _) = refl
 listed_ends (signals _ _ _) = refl
 
 reader_ends : {r : Reading} → Outcome r → eqb r.answer.number 0 ≡ false → goes_on r.answer.number ≡ false

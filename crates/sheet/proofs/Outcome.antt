@@ -20,7 +20,7 @@ use Rattle.sheet.specs.Rules.{header_ok}
 use Rattle.sheet.specs.Reading.{vertex_line_ok, edge_line_ok, size_ok, read_in}
 use Rattle.sheet.specs.SheetRows.{line_at, is_missing, numbers_of, in_turn, header, vertex_count_of, edge_count_of, net_in, vertex_rows, edge_rows, rows_in}
 use Rattle.sheet.specs.Outcome.{Listed, Outcome}
-use Rattle.sheet.specs.Outcome.Listed.{size, fields, at_header_line, lines, at_vertex_line, at_edge_line, partner, at_key_node, signals}
+use Rattle.sheet.specs.Outcome.Listed.{size, fields, at_header_line, lines, at_vertex_line, at_edge_line, partner, key_nodes, signals}
 use Rattle.sheet.specs.Outcome.Outcome.{accept, refuse}
 use Rattle.sheet.specs.Valid.{valid}
 use Rattle.sheet.proofs.RowLaws.{RowsAnswer, nothing, found, rows-answer, first-append, not_held, held_at}
@@ -62,7 +62,7 @@ module _ (w : ℕ) (b : List ℕ) where
     graph_listed (here {p = p} h) =
         let f = (partner_some (net_in w b) p).0 h in
         partner p (omega (arith, f.line)) (omega (arith, f.line, f.below, c.vertices, c.edges))
-    graph_listed (later _ (here {p = p} h)) = let v = key_vertex_lem (net_in w b) p h in at_key_node p v.low (omega (arith, v.high, c.vertices))
+    graph_listed (later _ (here {p = p} h)) = let v = key_vertex_lem (net_in w b) p h in key_nodes p v.low (omega (arith, v.high, c.vertices))
     graph_listed (later _ (later _ (here {p = p} h))) = let v = signal_vertex (net_in w b) p h in signals p v.low (omega (arith, v.high, c.vertices))
     graph_listed (later _ (later _ (later _ none))) = elim none [ ]
 

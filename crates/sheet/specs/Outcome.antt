@@ -17,7 +17,7 @@ pub data Listed : ℕ → ℕ → Type 0 where
   at_vertex_line : (line : ℕ) → 2 ≤ line → line ≤ most_lines → Listed 15 line
   at_edge_line : (line : ℕ) → 2 ≤ line → line ≤ most_lines → Listed 16 line
   partner : (line : ℕ) → 2 ≤ line → line ≤ most_lines → Listed 21 line
-  at_key_node : (y : ℕ) → 1 ≤ y → y ≤ most_vertices → Listed 22 y
+  key_nodes : (y : ℕ) → 1 ≤ y → y ≤ most_vertices → Listed 22 y
   signals : (y : ℕ) → 1 ≤ y → y ≤ most_vertices → Listed 23 y
 
 pub data Outcome : Reading → Type 0 where
