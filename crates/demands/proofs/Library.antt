@@ -74,6 +74,7 @@ unfolding batch_rows
 batch-row N count results answers v (here {p = p} e) = absurd (true≢false (sym v ∙ not-true _ ((when_some _ p).0 e).0))
 batch-row N count results answers v (later _ (here _)) = inl refl
 batch-row N count results answers v (later _ (later _ (here _))) = inr refl
+batch-row N count results answers v (later _ (later _ (later _ beyond))) = elim beyond [ ]
 
 read_number : {r : Reading} → Outcome r → BatchNumber r.answer
 read_number (accept N) = fit
