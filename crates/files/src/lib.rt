@@ -17,6 +17,9 @@ const MOST_TRIES: u32 = 1000;
 // The system's number where nothing failed: its words for a write that takes nothing.
 const NO_ERROR: i32 = 0;
 
+// The system's number for bytes that are no text: the library opens files whose name is text.
+const NO_TEXT: i32 = 84;
+
 // Room for the words that an error is printed with.
 const WORDS_BYTES: usize = 128;
 
@@ -42,10 +45,14 @@ fn fail(rt: &HostRuntime, told: &[u8], error: Error) {
 }
 
 // Opens a file for reading. What is told where that fails is the program's name and the file's.
-pub fn open(rt: &HostRuntime, name: &str, told: &[u8]) -> Option<File>
+pub fn open(rt: &HostRuntime, name: &[u8], told: &[u8]) -> Option<File>
     ensures { Opened (descriptor result) }
 {
-    match fs::open(rt, name) {
+    let Ok(path) = str::from_utf8(name) else {
+        fail(rt, told, Error::from_raw_os_error(NO_TEXT));
+        return None;
+    };
+    match fs::open(rt, path) {
         Ok(file) => {
             if file.as_raw_fd() >= 0 {
                 return Some(file);
@@ -225,10 +232,15 @@ mod tests {
 
     #[test]
     fn missing_file_has_no_bytes(rt: HostRuntime) {
-        let mut file = open(&rt, "no such file", b"test");
+        let mut file = open(&rt, b"no such file", b"test");
         let mut buffer = [0u8; 4];
         assert!(rt; file.is_none());
         assert_eq!(rt; read(&rt, &mut file, b"test", &mut buffer), 0);
+    }
+
+    #[test]
+    fn name_that_is_no_text_opens_nothing(rt: HostRuntime) {
+        assert!(rt; open(&rt, b"\xff", b"test").is_none());
     }
 
     // The system's words, with no number.

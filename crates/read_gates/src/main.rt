@@ -25,7 +25,7 @@ fn text_buffer() -> [u8; Sheet::MOST_BYTES]
 
 fn main(rt: HostRuntime) {
     let mut buffer = sheet_buffer();
-    let mut gates = files::open(&rt, "gates", b"read_gates: gates");
+    let mut gates = files::open(&rt, b"gates", b"read_gates: gates");
     let size = files::read(&rt, &mut gates, b"read_gates: gates", &mut buffer);
     drop(gates);
     let mut out = text_buffer();

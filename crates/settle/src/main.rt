@@ -89,14 +89,14 @@ fn write_jobs(rt: &HostRuntime, sheet: &[u8], jobs: &mut Option<File>, start: Ne
 
 fn main(rt: HostRuntime) {
     let mut buffer = sheet_buffer();
-    let mut net = files::open(&rt, "net", b"settle: net");
+    let mut net = files::open(&rt, b"net", b"settle: net");
     let size = files::read(&rt, &mut net, b"settle: net", &mut buffer);
     drop(net);
     let next = write_opening(&rt, &buffer[..size]);
     let Next::Piece(_) = next else {
         return;
     };
-    let mut jobs = files::open(&rt, "jobs", b"settle: jobs");
+    let mut jobs = files::open(&rt, b"jobs", b"settle: jobs");
     write_jobs(&rt, &buffer[..size], &mut jobs, next);
     drop(jobs);
 }

@@ -24,7 +24,7 @@ fn text_buffer() -> [u8; Sheet::MOST_BYTES]
 
 fn main(rt: HostRuntime) {
     let mut buffer = sheet_buffer();
-    let mut net = files::open(&rt, "net", b"write_net: net");
+    let mut net = files::open(&rt, b"net", b"write_net: net");
     let size = files::read(&rt, &mut net, b"write_net: net", &mut buffer);
     drop(net);
     let mut out = text_buffer();
