@@ -7,7 +7,7 @@
  * Pointers. None may be null, not even with length 0. What a call writes (buffers and numbers) must not overlap anything else that it
  * is handed; what it only reads may overlap. A `uint32_t *` points to one number, aligned as usual.
  * Threads. There is no state between calls, so calls may run at the same time, if none writes what another one reads or writes.
- * Stack. Measured, settle_verdict and settle_opening take up to 1.3 MB of the stack of their thread, the other two up to 0.5 MB; have 2 MB.
+ * Stack. Measured with an older kit, settle_verdict and settle_opening take up to 1.3 MB of the stack of their thread, the other two up to 0.5 MB; have 2 MB.
  *
  * Every call comes back with a number of the table below, for whatever bytes and lengths it is handed.
  */
