@@ -9,7 +9,7 @@ ghost use Rattle.cases.specs.Input.{part_of, number_at, data_of, next_of};
 mod streams;
 
 use sheet::{Field, Sheet};
-pub use streams::{at_most, print, print_number, read_input};
+pub use streams::{at_most, read_input};
 
 #[derive(Clone, Copy)]
 pub struct Input;

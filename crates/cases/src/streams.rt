@@ -1,4 +1,4 @@
-// What the test programs read and print. A program prints what it can: what cannot be printed is left out, and nothing is told of it.
+// What the test programs read.
 ghost use Rattle.std.specs.Prelude.{◌≡◌, ◌≤◌, min, length};
 ghost use Rattle.std.specs.Counts.{IsPrefixLen};
 
@@ -25,16 +25,6 @@ pub fn read_input(rt: &HostRuntime, buffer: &mut [u8]) -> usize
         done += more;
     }
     done
-}
-
-// Prints bytes as they are.
-pub fn print(rt: &HostRuntime, bytes: &[u8]) {
-    let _ = rt.write_all(bytes);
-}
-
-// Prints a number in as many digits as it has.
-pub fn print_number(rt: &HostRuntime, n: u64) {
-    let _ = rt.print(n);
 }
 
 // So many bytes of a buffer, at most all of it.

@@ -5,7 +5,7 @@
 
 ghost use Rattle.std.specs.Prelude.{◌<◌, ◌≡◌, length};
 
-use cases::{Case, Input, at_most, data_of, next_case, number_at, number_text, print, read_input};
+use cases::{Case, Input, at_most, data_of, next_case, number_at, number_text, read_input};
 use net::Net;
 use sheet::{Answer, Reading, Sheet};
 use soundness::Excited;
@@ -35,7 +35,7 @@ fn text_buffer() -> [u8; Lent::MOST_BYTES]
 // A number in the columns of a field.
 fn print_column(rt: &HostRuntime, n: u64) {
     let text = number_text(n);
-    print(rt, &text);
+    let _ = rt.write_all(&text);
 }
 
 // A number and its place.
@@ -73,8 +73,8 @@ fn print_text<'a, 'b>(rt: &HostRuntime, sheet: &'a [u8], buffer: &'b mut [u8]) {
     let written = gates_text::text(sheet, buffer);
     let text = report_turns::written_part(written, buffer);
     print_column(rt, text.len() as u64);
-    print(rt, b"\n");
-    print(rt, text);
+    let _ = rt.write_all(b"\n");
+    let _ = rt.write_all(text);
 }
 
 // The text in a buffer of the size that the case at a place gives, at most all of it.
@@ -107,7 +107,7 @@ fn print_case(rt: &HostRuntime, cases: &[u8], at: usize, from: usize)
     requires { at < length cases.now }
 {
     if cases[at] == b'#' {
-        print(rt, data_of(cases, at));
+        let _ = rt.write_all(data_of(cases, at));
     } else {
         print_answer(rt, cases, at, data_of(cases, from));
     }

@@ -6,7 +6,7 @@ ghost use Rattle.std.specs.Prelude.{◌≤◌, ◌<◌, ◌≡◌, length};
 ghost use Rattle.std.specs.Counts.{IsPrefixLen};
 ghost use Rattle.output.specs.Program.{Onward};
 
-use cases::{Case, Input, at_most, data_of, next_case, number_at, print, print_number, read_input};
+use cases::{Case, Input, at_most, data_of, next_case, number_at, read_input};
 use output::{Next, Report, Written};
 use sheet::Sheet;
 
@@ -62,17 +62,17 @@ fn line_size(text: &[u8]) -> usize
 fn print_ends(rt: &HostRuntime, text: &[u8]) {
     let size = line_size(text);
     let last = text.len() - size;
-    print_number(rt, text.len() as u64);
-    print(rt, b"\n");
-    print(rt, &text[..size]);
-    print(rt, &text[last..]);
+    let _ = rt.print(text.len() as u64);
+    let _ = rt.write_all(b"\n");
+    let _ = rt.write_all(&text[..size]);
+    let _ = rt.write_all(&text[last..]);
 }
 
 // The first line of the output.
 fn print_opening(rt: &HostRuntime, sheet: &[u8]) {
     let mut out = text_buffer();
     let written = report_opening::opening(sheet, &mut out);
-    print(rt, report_turns::written_part(written, &out));
+    let _ = rt.write_all(report_turns::written_part(written, &out));
 }
 
 // The lines of the piece that begins with this job, counted from 1: as many as a piece has, or all that are left.
@@ -99,7 +99,7 @@ fn print_text(rt: &HostRuntime, text: &[u8], whole: bool) {
         return;
     }
     if whole {
-        print(rt, text);
+        let _ = rt.write_all(text);
     } else {
         print_ends(rt, text);
     }
@@ -183,21 +183,21 @@ fn untouched_bytes(out: &[u8]) -> u64 {
 // What a call wrote to a lent buffer, how many bytes it says that it wrote and whether they are the last, or that the buffer is short, and how many bytes are
 // untouched.
 fn print_lent(rt: &HostRuntime, written: Written, out: &[u8]) {
-    print(rt, report_turns::written_part(written, out));
+    let _ = rt.write_all(report_turns::written_part(written, out));
     match written {
         Written::Bytes(count) => {
-            print_number(rt, count as u64);
+            let _ = rt.print(count as u64);
         }
         Written::Last(count) => {
-            print(rt, b"last ");
-            print_number(rt, count as u64);
+            let _ = rt.write_all(b"last ");
+            let _ = rt.print(count as u64);
         }
         Written::Short => {
-            print(rt, b"short");
+            let _ = rt.write_all(b"short");
         }
     }
-    print(rt, b" ");
-    print_number(rt, untouched_bytes(out));
+    let _ = rt.write_all(b" ");
+    let _ = rt.print(untouched_bytes(out));
 }
 
 // The first line in a lent buffer.
@@ -249,7 +249,7 @@ fn print_case(rt: &HostRuntime, cases: &[u8], at: usize, from: usize)
     requires { at < length cases.now }
 {
     if cases[at] == b'#' {
-        print(rt, data_of(cases, at));
+        let _ = rt.write_all(data_of(cases, at));
     } else {
         print_answer(rt, cases, at, data_of(cases, from));
     }

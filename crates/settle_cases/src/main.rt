@@ -5,10 +5,7 @@
 ghost use Rattle.std.specs.Prelude.{◌<◌, ◌≡◌, length};
 ghost use Rattle.std.specs.Counts.{IsPrefixLen};
 
-use cases::{
-    Case, Input, at_most, data_of, next_case, number_at, number_text, print, print_number,
-    read_input,
-};
+use cases::{Case, Input, at_most, data_of, next_case, number_at, number_text, read_input};
 use net::Net;
 use sheet::Answer;
 use ternary::Signal;
@@ -60,7 +57,7 @@ fn answer_buffer() -> [u8; Lent::MOST_ANSWERS]
 // A number in the columns of a field.
 fn print_column(rt: &HostRuntime, n: u64) {
     let text = number_text(n);
-    print(rt, &text);
+    let _ = rt.write_all(&text);
 }
 
 // A number and its place.
@@ -72,9 +69,9 @@ fn print_place(rt: &HostRuntime, answer: Answer) {
 // A signal as a character; any other byte as its number.
 fn print_signal(rt: &HostRuntime, byte: u8) {
     if byte == Signal::X {
-        print(rt, b"X");
+        let _ = rt.write_all(b"X");
     } else {
-        print_number(rt, byte as u64);
+        let _ = rt.print(byte as u64);
     }
 }
 
@@ -108,18 +105,18 @@ fn print_settling(
     print_column(rt, answer.place as u64);
     print_column(rt, answer.first_steps as u64);
     print_column(rt, answer.second_steps as u64);
-    print(rt, b" ");
+    let _ = rt.write_all(b" ");
     print_bytes(rt, r, false);
-    print(rt, b" ");
+    let _ = rt.write_all(b" ");
     print_bytes(rt, t, false);
 }
 
 // A batch: number, place, and both buffers whole.
 fn print_batch(rt: &HostRuntime, net: Net, jobs: &[u8], results: &mut [u8], answers: &mut [u8]) {
     print_place(rt, settling::batch(net, jobs, results, answers));
-    print(rt, b" ");
+    let _ = rt.write_all(b" ");
     print_bytes(rt, results, false);
-    print(rt, b" ");
+    let _ = rt.write_all(b" ");
     print_bytes(rt, answers, true);
 }
 
@@ -191,7 +188,7 @@ fn print_case(rt: &HostRuntime, cases: &[u8], at: usize, from: usize)
     requires { at < length cases.now }
 {
     if cases[at] == b'#' {
-        print(rt, data_of(cases, at));
+        let _ = rt.write_all(data_of(cases, at));
     } else {
         print_answer(rt, cases, at, data_of(cases, from));
     }

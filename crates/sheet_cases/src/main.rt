@@ -6,7 +6,7 @@
 ghost use Rattle.std.specs.Prelude.{◌<◌, ◌≡◌, length};
 ghost use Rattle.sheet.specs.Limits.{ReadColumns};
 
-use cases::{Case, Input, data_of, next_case, number_at, number_text, print, read_input};
+use cases::{Case, Input, data_of, next_case, number_at, number_text, read_input};
 use sheet::{JobLine, Reading, Sheet};
 
 // The buffer that a field is written to, and what it holds before.
@@ -30,7 +30,7 @@ fn field_buffer() -> [u8; FIELD_BUFFER]
 // A number in the columns of a field.
 fn print_column(rt: &HostRuntime, n: u64) {
     let text = number_text(n);
-    print(rt, &text);
+    let _ = rt.write_all(&text);
 }
 
 // The buffer with a number in its first columns; untouched where it has not so many.
@@ -47,7 +47,7 @@ fn field_in(n: u64, columns: usize) -> [u8; FIELD_BUFFER]
 // A number in so many columns, and the rest of the buffer.
 fn print_field(rt: &HostRuntime, n: u64, columns: usize) {
     let text = field_in(n, columns);
-    print(rt, &text);
+    let _ = rt.write_all(&text);
 }
 
 // A sheet: number, place, and whether the record is one.
@@ -61,7 +61,7 @@ fn print_reading(rt: &HostRuntime, reading: Reading) {
 // Bytes that are handed back: how many, and these.
 fn print_part(rt: &HostRuntime, part: &[u8]) {
     print_column(rt, part.len() as u64);
-    print(rt, part);
+    let _ = rt.write_all(part);
 }
 
 // One line of a sheet: number, and its bytes.
@@ -118,7 +118,7 @@ fn columns_at(cases: &[u8], at: usize) -> usize
 
 // A note, which ends the line of the case before it.
 fn print_note(rt: &HostRuntime, note: &[u8]) {
-    print(rt, note);
+    let _ = rt.write_all(note);
 }
 
 // The answer of the case at a place, by its kind.

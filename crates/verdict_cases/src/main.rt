@@ -4,9 +4,7 @@
 
 ghost use Rattle.std.specs.Prelude.{◌<◌, ◌≡◌, length};
 
-use cases::{
-    Case, Input, data_of, next_case, number_at, number_text, print, print_number, read_input,
-};
+use cases::{Case, Input, data_of, next_case, number_at, number_text, read_input};
 use net::Net;
 use sheet::Answer;
 use soundness::Excited;
@@ -21,7 +19,7 @@ fn input_buffer() -> [u8; Input::MOST_BYTES]
 // A number in the columns of a field.
 fn print_column(rt: &HostRuntime, n: u64) {
     let text = number_text(n);
-    print(rt, &text);
+    let _ = rt.write_all(&text);
 }
 
 // A number and its place.
@@ -48,13 +46,13 @@ fn print_excitation(rt: &HostRuntime, net: Net, input: u32, key: u32, vertex: u3
 fn print_character(rt: &HostRuntime, net: Net, input: u32, key: u32, vertex: u32) {
     match vertex_excitation::excitation(net, input, key, vertex) {
         Excited::Value(v) => {
-            print_number(rt, v as u64);
+            let _ = rt.print(v as u64);
         }
         Excited::Refused(n) => {
             if n == Answer::NO_STORAGE_VERTEX {
-                print(rt, b"-");
+                let _ = rt.write_all(b"-");
             } else {
-                print(rt, b"?");
+                let _ = rt.write_all(b"?");
             }
         }
     }
@@ -99,7 +97,7 @@ fn print_case(rt: &HostRuntime, cases: &[u8], at: usize, from: usize)
     requires { at < length cases.now }
 {
     if cases[at] == b'#' {
-        print(rt, data_of(cases, at));
+        let _ = rt.write_all(data_of(cases, at));
     } else {
         print_answer(rt, cases, at, data_of(cases, from));
     }

@@ -6,7 +6,7 @@
 ghost use Rattle.std.specs.Prelude.{◌<◌, ◌≡◌, length};
 ghost use Rattle.std.specs.Counts.{IsPrefixLen};
 
-use cases::{Case, Input, at_most, data_of, next_case, number_at, number_text, print, read_input};
+use cases::{Case, Input, at_most, data_of, next_case, number_at, number_text, read_input};
 use net::Net;
 use sheet::{Answer, Sheet};
 use writer::Written;
@@ -55,7 +55,7 @@ fn sheet_buffer() -> [u8; Lent::MOST_BYTES]
 // A number in the columns of a field.
 fn print_column(rt: &HostRuntime, n: u64) {
     let text = number_text(n);
-    print(rt, &text);
+    let _ = rt.write_all(&text);
 }
 
 // A number and its place.
@@ -68,8 +68,8 @@ fn print_place(rt: &HostRuntime, answer: Answer) {
 fn print_written(rt: &HostRuntime, written: Written, buffer: &[u8]) {
     print_place(rt, written.answer);
     print_column(rt, written.length as u64);
-    print(rt, b"\n");
-    print(rt, buffer);
+    let _ = rt.write_all(b"\n");
+    let _ = rt.write_all(buffer);
 }
 
 fn print_agreed(rt: &HostRuntime, net: Net, buffer: &mut [u8]) {
@@ -87,8 +87,8 @@ fn print_text<'a, 'b>(rt: &HostRuntime, sheet: &'a [u8], buffer: &'b mut [u8]) {
     let written = writer_text::text(sheet, buffer);
     let text = report_turns::written_part(written, buffer);
     print_column(rt, text.len() as u64);
-    print(rt, b"\n");
-    print(rt, text);
+    let _ = rt.write_all(b"\n");
+    let _ = rt.write_all(text);
 }
 
 // The text in a buffer of the size that the case at a place gives.
@@ -212,7 +212,7 @@ fn print_case(rt: &HostRuntime, cases: &[u8], at: usize, from: usize)
     requires { at < length cases.now }
 {
     if cases[at] == b'#' {
-        print(rt, data_of(cases, at));
+        let _ = rt.write_all(data_of(cases, at));
     } else {
         print_answer(rt, cases, at, data_of(cases, from));
     }
