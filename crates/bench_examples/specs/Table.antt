@@ -1,12 +1,9 @@
 -- The ten bench examples that document 01 marks P, from the bytes of a sheet to the answer.
-use Rattle.std.specs.Prelude.{ℕ, List, [], ◌∷◌, ◌++◌, replicate}
+use Rattle.std.specs.Prelude.{ℕ, List, [], ◌∷◌, ◌++◌, replicate, Some, None, Result, Ok, Err}
 use Rattle.net.specs.Graph.{key_count}
-use Rattle.sheet.specs.declared.JobLine.TheVariants.{Asked, Refused}
 use Rattle.sheet.specs.Reading.{read_sheet}
 use Rattle.sheet.specs.Job.{job_of, job_number}
 use Rattle.sheet.specs.Text.{bytes}
-use Rattle.soundness.specs.declared.Excited.{Excited}
-use Rattle.soundness.specs.declared.Excited.TheVariants.{Value, Refused as NoValue}
 use Rattle.soundness.specs.Excited.{excited_of}
 use Rattle.settlements.specs.Settle.{settle_of}
 use Rattle.bench_examples.specs.Nets.{worked, nor_gate, three_nands, nor_latch}
@@ -22,9 +19,9 @@ abbrev pub untouched : ℕ
 untouched = 45
 
 -- number and value of one vertex's excitation
-abbrev pub value_line : Excited → List ℕ
-value_line (Value v) = 0 ∷ v ∷ []
-value_line (NoValue n) = n ∷ []
+abbrev pub value_line : Result ℕ ℕ → List ℕ
+value_line (Ok v) = 0 ∷ v ∷ []
+value_line (Err n) = n ∷ []
 
 -- for a job: its number, its step counts, and both buffers, each lent with h untouched bytes
 unfoldable pub answer_to : Question → List ℕ
@@ -32,10 +29,10 @@ answer_to (settling sheet job) =
     let N = (read_sheet sheet).net in
     let lent = replicate (key_count N) untouched in
     elim (job_of job) [
-      | Asked A B q ↦
-          let s = settle_of N A B q lent lent in
+      | Some line ↦
+          let s = settle_of N line.old line.new line.start lent lent in
           s.answer.number ∷ s.answer.first_steps ∷ s.answer.second_steps ∷ (s.r ++ s.t)
-      | Refused ↦ job_number Refused ∷ 0 ∷ 0 ∷ (lent ++ lent)
+      | None ↦ job_number None ∷ 0 ∷ 0 ∷ (lent ++ lent)
     ]
 answer_to (exciting sheet a q y) = value_line (excited_of (read_sheet sheet).net a q y)
 

@@ -8,7 +8,7 @@ use lib.Dec.{ltb}
 use lib.ListN.{length, take, drop}
 use borrow.Author.Tests.{le-leb, lt-leb, le-ltb, ltb-true}
 use Rattle.ternary.proofs.Tests.{cond_by}
-use Rattle.sheet.specs.declared.Field.TheVariants.{Number, Refused}
+use Rattle.std.specs.Prelude.{Some, None}
 use Rattle.sheet.specs.Limits.{most_columns}
 use Rattle.sheet.specs.Field.{read_field, field_answer}
 use Rattle.sheet.proofs.LineSteps.{number_of, refused_of, part}
@@ -28,11 +28,11 @@ abbrev field : List ℕ → ℕ → Option ℕ
 field b at = read_field most_columns (part_of b at most_columns)
 
 module _ (b : List ℕ) (at : ℕ) where
-  pub number_there : (n : ℕ) → field_answer (field b at) ≡ Number n → n ≡ number_at b at
+  pub number_there : (n : ℕ) → field_answer (field b at) ≡ Some n → n ≡ number_at b at
   unfolding number_at
   number_there n e = rw (number_of (field b at) n e)
 
-  pub number_missing : field_answer (field b at) ≡ Refused → largest ≡ number_at b at
+  pub number_missing : field_answer (field b at) ≡ None → largest ≡ number_at b at
   unfolding number_at
   number_missing e = rw (refused_of (field b at) e)
 

@@ -11,8 +11,8 @@ use Rattle.ternary.specs.Bits.{InputState, KeyState}
 use Rattle.ternary.specs.Passes.{Settled}
 use Rattle.net.specs.declared.Net.{Net}
 use Rattle.sheet.specs.declared.Answer.{Answer}
-use Rattle.sheet.specs.declared.JobLine.{JobLine}
-use Rattle.sheet.specs.declared.JobLine.TheVariants.{Asked, Refused}
+use Rattle.std.specs.Prelude.{Option, Some, None}
+use Rattle.sheet.specs.declared.Job.{Job}
 use Rattle.sheet.specs.Rows.{answer, Row, row, when, by_rows}
 use Rattle.sheet.specs.Job.{job_of, job_number}
 use Rattle.sheet.specs.Valid.{valid}
@@ -35,13 +35,13 @@ abbrev passed : ℕ → Settled → Bytes → Bytes → Settlement
 passed h p R T = settlement (settling 0 0 p.first_steps p.second_steps) (p.r ++ drop h R) (p.t ++ drop h T)
 
 module _ {M N : Net} (s : SameNet M N) where
-  same_job : (j : JobLine) (own : Bytes) → job_settlement M j own ≡ job_settlement N j own
+  same_job : (j : Option Job) (own : Bytes) → job_settlement M j own ≡ job_settlement N j own
   unfolding job_settlement job_rows settle_under written
-  same_job (Asked A B q) own =
+  same_job (Some line) own =
       let by : ℕ → ℕ → Bool → Settled → Settlement =
-      λ L h stable p. by_rows (states A B q L h (row 44 (when (not stable)) ∷ [])) (passed h p (take h own) (drop h own)) (λ a. unsettled a (take h own) (drop h own)) in
-      λ i. by (s.letter_count i) (same-key_count s i) (same-stable s A q i) (same-settled s A B q i)
-  same_job Refused own = ap (λ (h : ℕ). unsettled (answer (job_number Refused) 0) (take h own) (drop h own)) (same-key_count s)
+      λ L h stable p. by_rows (states line.old line.new line.start L h (row 44 (when (not stable)) ∷ [])) (passed h p (take h own) (drop h own)) (λ a. unsettled a (take h own) (drop h own)) in
+      λ i. by (s.letter_count i) (same-key_count s i) (same-stable s line.old line.start i) (same-settled s line.old line.new line.start i)
+  same_job None own = ap (λ (h : ℕ). unsettled (answer (job_number None) 0) (take h own) (drop h own)) (same-key_count s)
 
   same_width : job_width M ≡ job_width N
   same_width = ap (λ (h : ℕ). 2 * h) (same-key_count s)

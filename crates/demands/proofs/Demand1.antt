@@ -10,7 +10,8 @@ use Rattle.net.specs.declared.Net.{Net}
 use Rattle.net.specs.Graph.{is_storage, key_count}
 use Rattle.net.specs.Network.{is_input_state, is_key_state}
 use Rattle.sheet.specs.Limits.{field_width}
-use Rattle.sheet.specs.declared.JobLine.{JobLine}
+use Rattle.std.specs.Prelude.{Option}
+use Rattle.sheet.specs.declared.Job.{Job}
 use Rattle.sheet.specs.Rows.{answer, Row, NoRow}
 use Rattle.sheet.specs.Record.{accepted}
 use Rattle.sheet.specs.Line.{FullLine, line_number, sheet_line}
@@ -24,8 +25,7 @@ use Rattle.sheet.proofs.SheetRowLaws.{sheet_zero, sheet_number, sheet_refused, s
 use Rattle.sheet.proofs.Outcome.{outcome}
 use Rattle.sheet.proofs.LineLaws.{line-found, line_missing, line_empty}
 use Rattle.sheet.proofs.JobLaws.{job_number_lem as line_refused}
-use Rattle.soundness.specs.declared.Excited.{Excited}
-use Rattle.soundness.specs.declared.Excited.TheVariants.{Value, Refused as NoValue}
+use Rattle.std.specs.Prelude.{Result, Ok, Err}
 use Rattle.soundness.specs.Excited.{excitation_rows, excited_of, excited_number, excited_place}
 use Rattle.soundness.specs.KeyNodes.{key_nodes_of}
 use Rattle.soundness.specs.Verdict.{verdict_rows, verdict_of}
@@ -78,9 +78,9 @@ demand1_key_nodes N = record {
   counted = nodes_fit N;
 }
 
-no_place : (e : Excited) → excited_place e ≡ 0
-no_place (Value v) = refl
-no_place (NoValue n) = refl
+no_place : (e : Result ℕ ℕ) → excited_place e ≡ 0
+no_place (Ok v) = refl
+no_place (Err n) = refl
 
 unplaced : (N : Net) (a q y : ℕ) → Unplaced (excitation_rows N a q y)
 unfolding excitation_rows
@@ -142,7 +142,7 @@ module _ (N : Net) (jobs results answers : List ℕ) where
       fit : NoRow rows
       fit = (batch_zero N jobs results answers).0 zero
 
-      job : JobLine
+      job : Option Job
       job = job_of (line_of n jobs)
 
       own : List ℕ

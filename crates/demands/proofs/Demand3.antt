@@ -15,10 +15,9 @@ use Rattle.net.specs.Graph.{key_count}
 use Rattle.net.specs.Network.{network}
 use Rattle.net.specs.Ternary.{settled}
 use Rattle.sheet.specs.Limits.{field_width}
-use Rattle.sheet.specs.declared.JobLine.TheVariants.{Asked}
 use Rattle.sheet.specs.Rows.{answer}
 use Rattle.sheet.specs.Valid.{valid}
-use Rattle.sheet.specs.Job.{job_of}
+use Rattle.sheet.specs.Job.{asks, job_of}
 use Rattle.sheet.proofs.ReadLaws.{read_valid}
 use Rattle.settlements.specs.Settle.{written, settle_of}
 use Rattle.settlements.specs.Batch.{job_count, pieces, job_width, answer_width, run_jobs, batch_of}
@@ -60,7 +59,7 @@ module _ {sheet : List ℕ} {N : Net} {A B q : ℕ} (s : Settles sheet N A B q) 
   })
 
   -- DEMAND 3 of a job of a batch: job n, from 0
-  pub demand3_job : (jobs results answers : List ℕ) (n : ℕ) → n < job_count jobs → job_of (line_of n jobs) ≡ Asked A B q
+  pub demand3_job : (jobs results answers : List ℕ) (n : ℕ) → n < job_count jobs → job_of (line_of n jobs) ≡ asks A B q
       → job_count jobs * job_width N ≤ length results → job_count jobs * answer_width ≤ length answers
       → JobPromise N A B q n (batch_of N jobs results answers)
   unfolding written

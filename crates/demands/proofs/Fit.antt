@@ -13,8 +13,10 @@ use Rattle.net.specs.Graph.{key_count}
 use Rattle.net.specs.Network.{is_input_state, is_key_state, stable}
 use Rattle.net.specs.WellFormed.{C1}
 use Rattle.net.proofs.WellFormed.{place_c1_none, stable_iff}
-use Rattle.sheet.specs.declared.JobLine.{JobLine}
-use Rattle.sheet.specs.declared.JobLine.TheVariants.{Asked, Refused}
+use Rattle.std.specs.Prelude.{Some, None}
+use Rattle.std.specs.Prelude.{Option as Answered}
+use Rattle.sheet.specs.declared.Job.{Job}
+use Rattle.sheet.specs.Job.{asks}
 use Rattle.sheet.specs.Rows.{when, NoRow}
 use Rattle.sheet.specs.Rows.NoRow.{end, next}
 use Rattle.sheet.specs.Valid.{valid}
@@ -66,16 +68,16 @@ module _ (N : Net) (A B q : ℕ) where
       }
 
 -- a job line asks for states that may be settled
-pub record JobFit (N : Net) (j : JobLine) : Type 0 where
+pub record JobFit (N : Net) (j : Answered Job) : Type 0 where
   pub A : ℕ
   pub B : ℕ
   pub q : ℕ
-  pub asked : j ≡ Asked A B q
+  pub asked : j ≡ asks A B q
   pub startable : Startable N A B q
 
-pub job_line_fit : (N : Net) (j : JobLine) → NoRow (job_line_rows N j) → JobFit N j
-job_line_fit N (Asked A B q) (next _ f) = record { A = A; B = B; q = q; asked = refl; startable = job_fit N A B q f }
-job_line_fit N Refused (next e _) = absurd (true≢false (cc))
+pub job_line_fit : (N : Net) (j : Answered Job) → NoRow (job_line_rows N j) → JobFit N j
+job_line_fit N (Some line) (next _ f) = record { A = line.old; B = line.new; q = line.start; asked = refl; startable = job_fit N line.old line.new line.start f }
+job_line_fit N None (next e _) = absurd (true≢false (cc))
 
 module _ (N : Net) (count : ℕ) (results answers : List ℕ) where
   pub record BatchFit : Type 0 where

@@ -11,8 +11,9 @@ use Rattle.net.specs.declared.Net.{Net}
 use Rattle.net.specs.Graph.{key_count}
 use Rattle.net.specs.Network.{is_input_state, is_key_state, stable}
 use Rattle.sheet.specs.declared.Answer.{Answer}
-use Rattle.sheet.specs.declared.JobLine.{JobLine}
-use Rattle.sheet.specs.declared.JobLine.TheVariants.{Asked, Refused}
+use Rattle.std.specs.Prelude.{Some, None}
+use Rattle.std.specs.Prelude.{Option as Answered}
+use Rattle.sheet.specs.declared.Job.{Job}
 use Rattle.sheet.specs.Rows.{answer, Row, row, first_row, First, NoRow}
 use Rattle.sheet.specs.Rows.First.{here, later}
 use Rattle.sheet.specs.Rows.NoRow.{next}
@@ -45,37 +46,37 @@ module _ (N : Net) where
   unfolding job_rows
   unplaced A B q = a_row (not (is_input_state N A && is_input_state N B)) (a_row (not (is_key_state N q)) (a_row (not (stable N A q)) no_row))
 
-  pub job_answers : (j : JobLine) (own : List ℕ) → Answers (job_line_rows N j) (answer (job_settlement N j own).answer.number 0)
+  pub job_answers : (j : Answered Job) (own : List ℕ) → Answers (job_line_rows N j) (answer (job_settlement N j own).answer.number 0)
   unfolding job_settlement positive first_row
-  job_answers (Asked A B q) own = one_before _ (by_number _ (unplaced A B q) (job_zero N A B q own) (λ n h. (
-    λ e. (_, (job_number_lem N A B q own n _ h).0 (ap (λ (m : ℕ). answer m (job_settlement N (Asked A B q) own).answer.place) e)),
-    λ f. ap (λ (a : Answer). a.number) ((job_number_lem N A B q own n f.0 h).1 f.1),
+  job_answers (Some line) own = one_before _ (by_number _ (unplaced line.old line.new line.start) (job_zero N line.old line.new line.start own) (λ n h. (
+    λ e. (_, (job_number_lem N line.old line.new line.start own n _ h).0 (ap (λ (m : ℕ). answer m (job_settlement N (Some line) own).answer.place) e)),
+    λ f. ap (λ (a : Answer). a.number) ((job_number_lem N line.old line.new line.start own n f.0 h).1 f.1),
   )))
-  job_answers Refused own = record { fit = answered_zero (job_line_rows N Refused) refl; wrong = answered_some (job_line_rows N Refused) }
+  job_answers None own = record { fit = answered_zero (job_line_rows N None) refl; wrong = answered_some (job_line_rows N None) }
 
-  pub job_untouched : (j : JobLine) (own : List ℕ) (n p : ℕ) → First (job_line_rows N j) n p
+  pub job_untouched : (j : Answered Job) (own : List ℕ) (n p : ℕ) → First (job_line_rows N j) n p
       → job_settlement N j own ≡ unsettled (answer n p) (take (key_count N) own) (drop (key_count N) own)
   unfolding job_settlement first_row
-  job_untouched (Asked A B q) own n p (later _ f) = settle_some N A B q (job_rows N A B q) _ _ (answer n p) ((first_some (job_rows N A B q) n p).1 f)
-  job_untouched (Asked A B q) own n p (here e) = absurd (true≢false (cc))
-  job_untouched Refused own n p f =
-      let e = (first_some (job_line_rows N Refused) n p).1 f in
-      let is : answer (job_number Refused) 0 ≡ answer n p = cc in
+  job_untouched (Some line) own n p (later _ f) = settle_some N line.old line.new line.start (job_rows N line.old line.new line.start) _ _ (answer n p) ((first_some (job_rows N line.old line.new line.start) n p).1 f)
+  job_untouched (Some line) own n p (here e) = absurd (true≢false (cc))
+  job_untouched None own n p f =
+      let e = (first_some (job_line_rows N None) n p).1 f in
+      let is : answer (job_number None) 0 ≡ answer n p = cc in
       ap (λ (a : Answer). unsettled a (take (key_count N) own) (drop (key_count N) own)) is
 
   -- the numbers of a job
-  pub job_numbers : (j : JobLine) {m p : ℕ} → First (job_line_rows N j) m p → (1 ≤ m) × (m < 10 ^ (field_width - 1))
+  pub job_numbers : (j : Answered Job) {m p : ℕ} → First (job_line_rows N j) m p → (1 ≤ m) × (m < 10 ^ (field_width - 1))
   unfolding job_rows
-  job_numbers (Asked A B q) (here e) = absurd (true≢false (cc))
-  job_numbers (Asked A B q) (later _ (here _)) = (lit≤ tt, lit< tt)
-  job_numbers (Asked A B q) (later _ (later _ (here _))) = (lit≤ tt, lit< tt)
-  job_numbers (Asked A B q) (later _ (later _ (later _ (here _)))) = (lit≤ tt, lit< tt)
-  job_numbers (Asked A B q) (later _ (later _ (later _ (later _ beyond)))) = elim beyond [ ]
-  job_numbers Refused (here _) = (lit≤ tt, lit< tt)
-  job_numbers Refused (later _ beyond) = elim beyond [ ]
+  job_numbers (Some line) (here e) = absurd (true≢false (cc))
+  job_numbers (Some line) (later _ (here _)) = (lit≤ tt, lit< tt)
+  job_numbers (Some line) (later _ (later _ (here _))) = (lit≤ tt, lit< tt)
+  job_numbers (Some line) (later _ (later _ (later _ (here _)))) = (lit≤ tt, lit< tt)
+  job_numbers (Some line) (later _ (later _ (later _ (later _ beyond)))) = elim beyond [ ]
+  job_numbers None (here _) = (lit≤ tt, lit< tt)
+  job_numbers None (later _ beyond) = elim beyond [ ]
 
   -- what a job is answered has fewer digits than a field has columns
-  pub job_answer_small : (j : JobLine) {x : ℕ} → Answers (job_line_rows N j) (answer x 0) → x < 10 ^ (field_width - 1)
+  pub job_answer_small : (j : Answered Job) {x : ℕ} → Answers (job_line_rows N j) (answer x 0) → x < 10 ^ (field_width - 1)
   job_answer_small j {x} a = go (rows-answer (job_line_rows N j))
     where
       go : {o : Option Answer} → RowsAnswer (job_line_rows N j) o → x < 10 ^ (field_width - 1)

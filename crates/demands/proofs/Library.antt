@@ -15,7 +15,6 @@ use Rattle.net.specs.declared.Net.{Net}
 use Rattle.net.specs.Graph.{key_count}
 use Rattle.sheet.specs.Limits.{field_width}
 use Rattle.sheet.specs.declared.Answer.{Answer}
-use Rattle.sheet.specs.declared.JobLine.TheVariants.{Asked}
 use Rattle.sheet.specs.declared.Reading.{Reading}
 use Rattle.sheet.specs.Rows.{answer, Row, answered, First}
 use Rattle.sheet.specs.Rows.First.{here, later}
@@ -23,7 +22,7 @@ use Rattle.sheet.specs.Record.{accepted}
 use Rattle.sheet.specs.Reading.{read_sheet}
 use Rattle.sheet.specs.Outcome.{Outcome}
 use Rattle.sheet.specs.Outcome.Outcome.{accept, refuse}
-use Rattle.sheet.specs.Job.{job_of}
+use Rattle.sheet.specs.Job.{asks, job_of}
 use Rattle.sheet.specs.Valid.{valid}
 use Rattle.sheet.proofs.RowLaws.{RowsAnswer, nothing, found, rows-answer, by_rows-answer, when_some}
 use Rattle.sheet.proofs.Outcome.{outcome, accepted-at_zero, valid-at_zero}
@@ -43,7 +42,7 @@ module _ (sheet jobs results answers : List ℕ) where
   on-net reads = rw reads
 
   -- DEMAND 3 of the call: job n, from 0
-  pub demand3_sheet_job : {N : Net} {A B q : ℕ} → Settles sheet N A B q → (n : ℕ) → n < job_count jobs → job_of (line_of n jobs) ≡ Asked A B q
+  pub demand3_sheet_job : {N : Net} {A B q : ℕ} → Settles sheet N A B q → (n : ℕ) → n < job_count jobs → job_of (line_of n jobs) ≡ asks A B q
       → job_count jobs * job_width N ≤ length results → job_count jobs * answer_width ≤ length answers
       → JobPromise N A B q n (sheet_batch_of sheet jobs results answers).batch
   demand3_sheet_job s n h asked results_room answers_room =

@@ -13,8 +13,7 @@ use Rattle.net.specs.Graph.{key_count}
 use Rattle.net.specs.Ternary.{settled}
 use Rattle.net.specs.WellFormed.{place_c1}
 use Rattle.net.proofs.WellFormed.{place_c1_none}
-use Rattle.sheet.specs.declared.JobLine.TheVariants.{Asked}
-use Rattle.sheet.specs.Job.{job_of}
+use Rattle.sheet.specs.Job.{asks, job_of}
 use Rattle.settlements.specs.Batch.{job_count, job_width}
 use Rattle.output.specs.Limits.{most_jobs}
 use Rattle.output.specs.Text.{character, vector_text}
@@ -38,7 +37,7 @@ none_printed N s {characters} vector shown fits clear k h against =
 
 module _ {sheet : List ℕ} {N : Net} {A B q : ℕ} (s : Settles sheet N A B q) where
   -- DEMAND 3 of the text: job n, from 0, in the output
-  pub demand3_text : (jobs : List ℕ) (n : ℕ) → n < most_jobs → n < job_count jobs → job_of (line_of n jobs) ≡ Asked A B q
+  pub demand3_text : (jobs : List ℕ) (n : ℕ) → n < most_jobs → n < job_count jobs → job_of (line_of n jobs) ≡ asks A B q
       → TextPromise N A B q n (output_of sheet jobs)
   unfolding batch_for
   demand3_text jobs n few h asked = record {

@@ -7,8 +7,9 @@ use Rattle.net.specs.declared.Net.{Net}
 use Rattle.net.specs.Graph.{key_count}
 use Rattle.sheet.specs.declared.Answer.{Answer}
 use Rattle.sheet.specs.declared.Reading.{Reading}
-use Rattle.sheet.specs.declared.JobLine.{JobLine}
-use Rattle.sheet.specs.declared.JobLine.TheVariants.{Asked, Refused}
+use Rattle.std.specs.Prelude.{Some, None}
+use Rattle.std.specs.Prelude.{Option as Answered}
+use Rattle.sheet.specs.declared.Job.{Job}
 use Rattle.sheet.specs.Limits.{line_width}
 use Rattle.sheet.specs.Rows.{answer, Row, row, First, NoRow}
 use Rattle.sheet.specs.Record.{refused, accepted}
@@ -80,9 +81,9 @@ abbrev pub answer_of : ℕ → List ℕ → List ℕ
 answer_of n answers = take answer_width (drop (n * answer_width) answers)
 
 -- the rows of a job: its line, then those of settling that the batch has not tested
-abbrev pub job_line_rows : Net → JobLine → List Row
-job_line_rows N (Asked A B q) = row (job_number Refused) none ∷ job_rows N A B q
-job_line_rows N Refused = row (job_number Refused) (some 0) ∷ []
+abbrev pub job_line_rows : Net → Answered Job → List Row
+job_line_rows N (Some line) = row (job_number None) none ∷ job_rows N line.old line.new line.start
+job_line_rows N None = row (job_number None) (some 0) ∷ []
 
 -- a job of a batch: refused, its three bytes are its number, 0 and 0, and its own result bytes stay as they were
 pub record JobAnswers (N : Net) (jobs results : List ℕ) (n : ℕ) (S : Batch) : Type 0 where

@@ -1,8 +1,7 @@
 -- Demands 2 and 3 together, of one settling and of one job of a batch.
 use Rattle.std.specs.Prelude.{ℕ, ◌≡◌, List}
 use Rattle.net.specs.declared.Net.{Net}
-use Rattle.sheet.specs.declared.JobLine.TheVariants.{Asked}
-use Rattle.sheet.specs.Job.{job_of}
+use Rattle.sheet.specs.Job.{asks, job_of}
 use Rattle.settlements.specs.Settle.{Settlement}
 use Rattle.settlements.specs.Batch.{Batch}
 use Rattle.demands.specs.Demand1.{line_of}
@@ -26,5 +25,5 @@ pub record JobLineKept (sheet : List ℕ) (N : Net) (jobs : List ℕ) (n : ℕ) 
   pub A : ℕ
   pub B : ℕ
   pub q : ℕ
-  pub asked : job_of (line_of n jobs) ≡ Asked A B q
+  pub asked : job_of (line_of n jobs) ≡ asks A B q
   pub kept : JobKept sheet N A B q n S

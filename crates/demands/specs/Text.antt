@@ -7,11 +7,10 @@ use Rattle.ternary.specs.Run.{Run, Step}
 use Rattle.net.specs.declared.Net.{Net}
 use Rattle.net.specs.Graph.{key_count}
 use Rattle.net.specs.Ternary.{settled}
-use Rattle.sheet.specs.declared.JobLine.TheVariants.{Asked}
 use Rattle.sheet.specs.Limits.{blank, line_end}
 use Rattle.sheet.specs.Line.{write_number}
 use Rattle.sheet.specs.Rows.{First, NoRow}
-use Rattle.sheet.specs.Job.{job_of}
+use Rattle.sheet.specs.Job.{asks, job_of}
 use Rattle.settlements.specs.Batch.{job_count}
 use Rattle.output.specs.declared.Judged.{Judged}
 use Rattle.output.specs.Limits.{most_jobs, opening_bytes, job_bytes, hyphen}
@@ -64,7 +63,7 @@ pub record TextKept (sheet : List ℕ) (N : Net) (jobs : List ℕ) (n : ℕ) (ou
   pub A : ℕ
   pub B : ℕ
   pub q : ℕ
-  pub asked : job_of (line_of n jobs) ≡ Asked A B q
+  pub asked : job_of (line_of n jobs) ≡ asks A B q
   pub settles : Settles sheet N A B q
   pub promise : TextPromise N A B q n output
   pub passes : SettledPasses N A B q

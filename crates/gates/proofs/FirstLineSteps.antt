@@ -7,7 +7,7 @@ use lib.ListN.{length, take}
 use Rattle.ternary.specs.Lists.{Bytes}
 use Rattle.net.specs.Limits.{most_letters}
 use Rattle.sheet.specs.declared.Line.{Line}
-use Rattle.sheet.specs.declared.LineRead.TheVariants.{Five, Refused}
+use Rattle.std.specs.Prelude.{Some, None}
 use Rattle.sheet.specs.Line.{read_line, line_answer}
 use Rattle.sheet.specs.Reading.{whole_lines}
 use Rattle.sheet.specs.Record.{refused}
@@ -29,11 +29,11 @@ module _ (b : Bytes) where
     unfolding line_at
     line_at_0 = refl
 
-    pub bad_first_line : line_answer (read_line gate_columns (take gate_line_bytes b)) ≡ Refused → refused (answer 12 1) ≡ read_gates b
+    pub bad_first_line : line_answer (read_line gate_columns (take gate_line_bytes b)) ≡ None → refused (answer 12 1) ≡ read_gates b
     unfolding read_gates gate_rows by_rows first_row
     bad_first_line e = rw (size, line_at_0, unread_of (read_line gate_columns (take gate_line_bytes b)) e)
 
-    module _ (h : Line) (five : line_answer (read_line gate_columns (take gate_line_bytes b)) ≡ Five h) where
+    module _ (h : Line) (five : line_answer (read_line gate_columns (take gate_line_bytes b)) ≡ Some h) where
       header_is : gate_header b ≡ h
       header_is = rw (line_at_0, five_of (read_line gate_columns (take gate_line_bytes b)) h five)
 

@@ -14,7 +14,7 @@ use Rattle.net.proofs.Values.{within_low, within-high}
 use Rattle.sheet.specs.declared.Line.{Line}
 use Rattle.gates.specs.declared.Gate.{Gate}
 use Rattle.gates.specs.declared.Gate.TheVariants.{Inverter, Nand, Nor}
-use Rattle.gates.specs.declared.GateRead.TheVariants.{Gate as Decoded, Refused}
+use Rattle.std.specs.Prelude.{Some, None}
 use Rattle.gates.specs.Limits.{most_gates, gate_edition}
 use Rattle.gates.specs.Gates.{high, first_output, output_at}
 use Rattle.gates.specs.GateRows.{gate_symbol, gate_header_ok, gate_of, line_gate, gate_line_ok}
@@ -159,17 +159,17 @@ module _ (G L g : ℕ) (v : Line) where
 
   -- ---- what it is decoded to
 
-  pub decoded_refused : decode_gate G L g v ≡ Refused → gate_line_ok G L g v ≡ false
+  pub decoded_refused : decode_gate G L g v ≡ None → gate_line_ok G L g v ≡ false
   decoded_refused e = by_test (gate_line_ok G L g v) (λ t. absurd (clash (rw t at e))) (λ t. t)
     where
-      clash : Decoded (line_gate v) ≡ Refused → ⊥
+      clash : Some (line_gate v) ≡ None → ⊥
       clash q = true≢false (cc)
 
-  pub decoded_gate : (γ : Gate) → decode_gate G L g v ≡ Decoded γ → (gate_line_ok G L g v ≡ true) × (line_gate v ≡ γ)
+  pub decoded_gate : (γ : Gate) → decode_gate G L g v ≡ Some γ → (gate_line_ok G L g v ≡ true) × (line_gate v ≡ γ)
   decoded_gate γ e = by_test (gate_line_ok G L g v) (λ t. (t, same (rw t at e))) (λ t. absurd (clash (rw t at e)))
     where
-      same : Decoded (line_gate v) ≡ Decoded γ → line_gate v ≡ γ
+      same : Some (line_gate v) ≡ Some γ → line_gate v ≡ γ
       same q = cc
 
-      clash : Refused ≡ Decoded γ → ⊥
+      clash : None ≡ Some γ → ⊥
       clash q = true≢false (cc)

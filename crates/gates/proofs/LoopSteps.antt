@@ -17,7 +17,7 @@ use Rattle.ternary.proofs.ListLaws.{below_cases}
 use Rattle.net.specs.declared.Net.{Net}
 use Rattle.net.specs.Limits.{most_vertices, most_edges}
 use Rattle.sheet.specs.declared.Line.{Line}
-use Rattle.sheet.specs.declared.LineRead.TheVariants.{Five, Refused}
+use Rattle.std.specs.Prelude.{Some, None}
 use Rattle.sheet.specs.Checked.{Checked}
 use Rattle.sheet.specs.Graph.{graph_rows, key_place}
 use Rattle.sheet.specs.Line.{read_line, line_answer}
@@ -28,7 +28,6 @@ use Rattle.sheet.specs.SheetRows.{line_at, in_turn}
 use Rattle.sheet.proofs.LineSteps.{five_of, unread_of, part}
 use Rattle.sheet.proofs.ReaderSteps.{lent}
 use Rattle.gates.specs.declared.Gate.{Gate}
-use Rattle.gates.specs.declared.GateRead.TheVariants.{Gate as Decoded, Refused as Undecoded}
 use Rattle.gates.specs.Limits.{most_gates, gate_columns, gate_line_bytes}
 use Rattle.gates.specs.Gates.{output_at, net_of_first}
 use Rattle.gates.specs.GateRows.{line_gate, gate_line_ok, gate_sheet_line, gate_count, letter_count, gate_line_at, gate_from, net_of_gates, first_line_ok, gate_line_rows}
@@ -71,25 +70,25 @@ module _ (b : Bytes) where
     unfolding line_at
     same_line = ap (read_line gate_columns) (part b at gate_line_bytes ∙ rw place)
 
-    not_fields : line_answer (read_line gate_columns (lent gate_line_bytes b at)) ≡ Refused → gate_sheet_line b (1 + g) ≡ none
+    not_fields : line_answer (read_line gate_columns (lent gate_line_bytes b at)) ≡ None → gate_sheet_line b (1 + g) ≡ none
     not_fields e = unread_of (gate_sheet_line b (1 + g)) (rw same_line at e)
 
-    five_fields_lem : (v : Line) → line_answer (read_line gate_columns (lent gate_line_bytes b at)) ≡ Five v → gate_sheet_line b (1 + g) ≡ some v
+    five_fields_lem : (v : Line) → line_answer (read_line gate_columns (lent gate_line_bytes b at)) ≡ Some v → gate_sheet_line b (1 + g) ≡ some v
     five_fields_lem v e = five_of (gate_sheet_line b (1 + g)) v (rw same_line at e)
 
-    line_is : (v : Line) → line_answer (read_line gate_columns (lent gate_line_bytes b at)) ≡ Five v → gate_line_at b g ≡ v
+    line_is : (v : Line) → line_answer (read_line gate_columns (lent gate_line_bytes b at)) ≡ Some v → gate_line_at b g ≡ v
     line_is v e = rw (five_fields_lem v e)
 
     module _ (inv : gate_rest b (G - g) g ≡ gate_rest b G 0) (h : g < G) where
       left : G - g ≡ suc (G - suc g)
       left = omega arith
 
-      stops_12 : line_answer (read_line gate_columns (lent gate_line_bytes b at)) ≡ Refused → refused (answer 12 (g + 2)) ≡ gate_rest b G 0
+      stops_12 : line_answer (read_line gate_columns (lent gate_line_bytes b at)) ≡ None → refused (answer 12 (g + 2)) ≡ gate_rest b G 0
       stops_12 e =
           let p : g + 2 ≡ suc (1 + g) = omega arith in
           rw p (sym (rest_missing (G - suc g) g (not_fields e)) ∙ (rw left at inv))
 
-      module _ (v : Line) (e : line_answer (read_line gate_columns (lent gate_line_bytes b at)) ≡ Five v) where
+      module _ (v : Line) (e : line_answer (read_line gate_columns (lent gate_line_bytes b at)) ≡ Some v) where
         stops_52 : gate_line_ok G L g v ≡ false → refused (answer 52 (g + 2)) ≡ gate_rest b G 0
         stops_52 t =
             let p : g + 2 ≡ suc (1 + g) = omega arith in
@@ -179,16 +178,16 @@ module _ (b : Bytes) where
       below : g < gate_count b
       below = omega (arith, s.all_gates)
 
-      pub refuses_12 : line_answer (read_line gate_columns (lent gate_line_bytes b at)) ≡ Refused → refused (answer 12 (g + 2)) ≡ gate_rest b gates 0
+      pub refuses_12 : line_answer (read_line gate_columns (lent gate_line_bytes b at)) ≡ None → refused (answer 12 (g + 2)) ≡ gate_rest b gates 0
       refuses_12 e = rw s.all_gates (stops_12 b at g s.place s.rest below e)
 
-      module _ (v : Line) (five : line_answer (read_line gate_columns (lent gate_line_bytes b at)) ≡ Five v) where
-        pub refuses_52 : decode_gate gates letters g v ≡ Undecoded → refused (answer 52 (g + 2)) ≡ gate_rest b gates 0
+      module _ (v : Line) (five : line_answer (read_line gate_columns (lent gate_line_bytes b at)) ≡ Some v) where
+        pub refuses_52 : decode_gate gates letters g v ≡ None → refused (answer 52 (g + 2)) ≡ gate_rest b gates 0
         refuses_52 e =
             let bad = decoded_refused gates letters g v e in
             rw s.all_gates (stops_52 b at g s.place s.rest below v five (rw (s.all_gates, s.all_letters) at bad))
 
-        pub takes_gate : (γ : Gate) → decode_gate gates letters g v ≡ Decoded γ → SoFarGates gates letters (add_gate N (output_at g) γ) (at + gate_line_bytes) (g + 1)
+        pub takes_gate : (γ : Gate) → decode_gate gates letters g v ≡ Some γ → SoFarGates gates letters (add_gate N (output_at g) γ) (at + gate_line_bytes) (g + 1)
         takes_gate γ e =
             let decoded = decoded_gate gates letters g v γ e in
             let ok : gate_line_ok (gate_count b) (letter_count b) g v ≡ true = rw (s.all_gates, s.all_letters) at decoded.0 in

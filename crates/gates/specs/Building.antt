@@ -1,5 +1,5 @@
 -- For the code alone: what it decodes a line to, how it builds the record of gates, appending vertices and edges, and what is left to read.
-use Rattle.std.specs.Prelude.{ℕ, ◌+◌, cond, List, [], ◌∷◌, ◌++◌, set, replicate}
+use Rattle.std.specs.Prelude.{ℕ, ◌+◌, cond, Option, Some, None, List, [], ◌∷◌, ◌++◌, set, replicate}
 use Rattle.ternary.specs.Lists.{Bytes}
 use Rattle.net.specs.declared.Vertex.{Vertex}
 use Rattle.net.specs.declared.Edge.{Edge}
@@ -13,14 +13,12 @@ use Rattle.sheet.specs.Record.{read_by}
 use Rattle.sheet.specs.Rows.{row}
 use Rattle.sheet.specs.SheetRows.{placed, in_turn}
 use Rattle.gates.specs.declared.Gate.{Gate}
-use Rattle.gates.specs.declared.GateRead.{GateRead}
-use Rattle.gates.specs.declared.GateRead.TheVariants.{Gate as Decoded, Refused}
 use Rattle.gates.specs.Gates.{high, net_with, gate_edges, has_inner, inner, vertex_from}
 use Rattle.gates.specs.GateRows.{line_gate, gate_line_ok, net_of_gates, gate_line_rows}
 
 -- what the code answers for the line of gate g
-abbrev pub decode_gate : (G L g : ℕ) → Line → GateRead
-decode_gate G L g v = cond (gate_line_ok G L g v) (Decoded (line_gate v)) Refused
+abbrev pub decode_gate : (G L g : ℕ) → Line → Option Gate
+decode_gate G L g v = cond (gate_line_ok G L g v) (Some (line_gate v)) None
 
 abbrev pub append_vertex : Net → Vertex → Net
 append_vertex N x = net_with (set N.vertices N.vertex_count x) (N.vertex_count + 1) N.edges N.edge_count N.letter_count

@@ -24,13 +24,6 @@ impl Gate {
     pub const NOR: u32 = 3;
 }
 
-// What the line of a gate is decoded to: the gate, or a value that is not allowed.
-#[derive(Clone, Copy)]
-pub enum GateRead {
-    Gate(Gate),
-    Refused,
-}
-
 // A header, and a line for each gate.
 #[derive(Clone, Copy)]
 pub struct GateSheet;

@@ -16,8 +16,10 @@ use Rattle.net.specs.WellFormed.{C1}
 use Rattle.net.proofs.WellFormed.{place_c1_none}
 use Rattle.sheet.specs.Limits.{line_width}
 use Rattle.sheet.specs.declared.Answer.{Answer}
-use Rattle.sheet.specs.declared.JobLine.{JobLine}
-use Rattle.sheet.specs.declared.JobLine.TheVariants.{Asked, Refused}
+use Rattle.std.specs.Prelude.{Some, None}
+use Rattle.std.specs.Prelude.{Option as Answered}
+use Rattle.sheet.specs.declared.Job.{Job}
+use Rattle.sheet.specs.Job.{asks}
 use Rattle.sheet.specs.Rows.{answer, Row, first_row, answered, First, NoRow}
 use Rattle.sheet.specs.Valid.{valid}
 use Rattle.sheet.specs.Job.{job_of}
@@ -42,9 +44,9 @@ answer_bytes s = s.answer.number ∷ s.answer.first_steps ∷ s.answer.second_st
 
 module _ (N : Net) where
   -- a job keeps the length of its own bytes
-  pub job_length : (j : JobLine) (own : List ℕ) → length own ≡ job_width N → length (vectors_of (job_settlement N j own)) ≡ job_width N
+  pub job_length : (j : Answered Job) (own : List ℕ) → length own ≡ job_width N → length (vectors_of (job_settlement N j own)) ≡ job_width N
   unfolding job_settlement
-  job_length (Asked A B q) own e = go (first_row (job_rows N A B q)) refl
+  job_length (Some line) own e = go (first_row (job_rows N line.old line.new line.start)) refl
     where
       R : List ℕ
       R = take (key_count N) own
@@ -58,17 +60,17 @@ module _ (N : Net) where
       T-length : length T ≡ key_count N
       T-length = length-drop (key_count N) own ∙ omega arith
 
-      go : (o : Option Answer) → first_row (job_rows N A B q) ≡ o → length (vectors_of (settle_under (job_rows N A B q) N A B q R T)) ≡ job_width N
+      go : (o : Option Answer) → first_row (job_rows N line.old line.new line.start) ≡ o → length (vectors_of (settle_under (job_rows N line.old line.new line.start) N line.old line.new line.start R T)) ≡ job_width N
       go none f =
-          rw (settle_none N A B q (job_rows N A B q) R T f, length-append)
-          (omega (arith, length-written-r N A B q R T (omega (arith, R-length)), length-written-t N A B q R T (omega (arith, T-length)), R-length, T-length))
-      go (some a) f = rw (settle_some N A B q (job_rows N A B q) R T a f, take-append-drop) e
-  job_length Refused own e = ap length (take-append-drop (key_count N) own) ∙ e
+          rw (settle_none N line.old line.new line.start (job_rows N line.old line.new line.start) R T f, length-append)
+          (omega (arith, length-written-r N line.old line.new line.start R T (omega (arith, R-length)), length-written-t N line.old line.new line.start R T (omega (arith, T-length)), R-length, T-length))
+      go (some a) f = rw (settle_some N line.old line.new line.start (job_rows N line.old line.new line.start) R T a f, take-append-drop) e
+  job_length None own e = ap length (take-append-drop (key_count N) own) ∙ e
 
   -- a refused job leaves its own bytes
-  pub job_refused : (j : JobLine) (own : List ℕ) → (job_settlement N j own).answer.number ≢ 0 → vectors_of (job_settlement N j own) ≡ own
+  pub job_refused : (j : Answered Job) (own : List ℕ) → (job_settlement N j own).answer.number ≢ 0 → vectors_of (job_settlement N j own) ≡ own
   unfolding job_settlement written
-  job_refused (Asked A B q) own ne = go (first_row (job_rows N A B q)) refl
+  job_refused (Some line) own ne = go (first_row (job_rows N line.old line.new line.start)) refl
     where
       R : List ℕ
       R = take (key_count N) own
@@ -76,10 +78,10 @@ module _ (N : Net) where
       T : List ℕ
       T = drop (key_count N) own
 
-      go : (o : Option Answer) → first_row (job_rows N A B q) ≡ o → vectors_of (settle_under (job_rows N A B q) N A B q R T) ≡ own
-      go none f = absurd (ne (ap (λ (s : Settlement). s.answer.number) (settle_none N A B q (job_rows N A B q) R T f)))
-      go (some a) f = rw (settle_some N A B q (job_rows N A B q) R T a f) (take-append-drop (key_count N) own)
-  job_refused Refused own ne = take-append-drop (key_count N) own
+      go : (o : Option Answer) → first_row (job_rows N line.old line.new line.start) ≡ o → vectors_of (settle_under (job_rows N line.old line.new line.start) N line.old line.new line.start R T) ≡ own
+      go none f = absurd (ne (ap (λ (s : Settlement). s.answer.number) (settle_none N line.old line.new line.start (job_rows N line.old line.new line.start) R T f)))
+      go (some a) f = rw (settle_some N line.old line.new line.start (job_rows N line.old line.new line.start) R T a f) (take-append-drop (key_count N) own)
+  job_refused None own ne = take-append-drop (key_count N) own
 
   -- ---- the places of a job's bytes
 
@@ -157,7 +159,7 @@ piece-at (suc count) jobs (suc n) h =
 -- ---- a batch and a job that no row refuses
 
 pub job_accepts : (N : Net) (A B q : ℕ) → Startable N A B q → (own : List ℕ)
-    → job_settlement N (Asked A B q) own ≡ written N A B q (take (key_count N) own) (drop (key_count N) own)
+    → job_settlement N (asks A B q) own ≡ written N A B q (take (key_count N) own) (drop (key_count N) own)
 unfolding job_settlement job_rows first_row
 job_accepts N A B q s own = settle_none N A B q (job_rows N A B q) (take (key_count N) own) (drop (key_count N) own)
     (rw (inputs_pass N A B q s, start-passes N A B q s, rest-passes N A B q s))
@@ -202,13 +204,13 @@ module _ (N : Net) (jobs results answers : List ℕ) where
 -- ---- the answer of one job, by rows
 
 module _ (N : Net) (A B q : ℕ) (own : List ℕ) where
-  job_answer : settlement_answer (job_settlement N (Asked A B q) own) ≡ answered (first_row (job_rows N A B q))
+  job_answer : settlement_answer (job_settlement N (asks A B q) own) ≡ answered (first_row (job_rows N A B q))
   unfolding job_settlement settle_under written
   job_answer = by_rows-answer (job_rows N A B q) _ _ settlement_answer refl (λ a. refl)
 
-  pub job_zero : ((job_settlement N (Asked A B q) own).answer.number ≡ 0) ↔ NoRow (job_rows N A B q)
+  pub job_zero : ((job_settlement N (asks A B q) own).answer.number ≡ 0) ↔ NoRow (job_rows N A B q)
   unfolding job_rows positive
   job_zero = rw (ap (λ (a : Answer). a.number) job_answer) (answered_zero (job_rows N A B q) refl)
 
-  pub job_number_lem : (n p : ℕ) → 1 ≤ n → (settlement_answer (job_settlement N (Asked A B q) own) ≡ answer n p) ↔ First (job_rows N A B q) n p
+  pub job_number_lem : (n p : ℕ) → 1 ≤ n → (settlement_answer (job_settlement N (asks A B q) own) ≡ answer n p) ↔ First (job_rows N A B q) n p
   job_number_lem n p h = rw job_answer (answered_some (job_rows N A B q) n p h)

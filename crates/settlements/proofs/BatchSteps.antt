@@ -8,7 +8,7 @@ use lib.Dec.{ltb}
 use lib.ListN.{length}
 use Rattle.net.specs.declared.Net.{Net}
 use Rattle.net.specs.WellFormed.{place_c1}
-use Rattle.sheet.specs.declared.Found.TheVariants.{At}
+use Rattle.std.specs.Prelude.{Some}
 use Rattle.sheet.specs.Rows.{answer, first_row, by_rows}
 use Rattle.sheet.specs.Search.{found_of}
 use Rattle.sheet.specs.Valid.{valid}
@@ -22,7 +22,7 @@ module _ (N : Net) (lines results answers : List ℕ) where
   bad_record e = rw e
 
   module _ (ok : valid N ≡ true) where
-    pub breaks_c1 : {p : ℕ} → found_of (place_c1 N) ≡ At p → batched (answer 31 p) results answers ≡ batch_of N lines results answers
+    pub breaks_c1 : {p : ℕ} → found_of (place_c1 N) ≡ Some p → batched (answer 31 p) results answers ≡ batch_of N lines results answers
     unfolding batch_of batch_rows by_rows first_row
     breaks_c1 e = rw (ok, found_some (place_c1 N) e)
 

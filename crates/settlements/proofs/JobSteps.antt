@@ -8,8 +8,9 @@ use lib.ListN.{take, drop}
 use Rattle.net.specs.declared.Net.{Net}
 use Rattle.net.specs.Graph.{key_count}
 use Rattle.net.specs.Network.{stable}
-use Rattle.sheet.specs.declared.JobLine.{JobLine}
-use Rattle.sheet.specs.declared.JobLine.TheVariants.{Asked, Refused}
+use Rattle.std.specs.Prelude.{Option, None}
+use Rattle.sheet.specs.declared.Job.{Job}
+use Rattle.sheet.specs.Job.{asks}
 use Rattle.sheet.specs.Rows.{answer, first_row, by_rows}
 use Rattle.settlements.specs.Settle.{Settlement, settling, settlement, written, settle_under}
 use Rattle.settlements.specs.Batch.{job_rows, job_settlement}
@@ -20,12 +21,12 @@ use Rattle.settlements.proofs.SettleLaws.{settle_some}
 abbrev pub left : Net → List ℕ → ℕ → Settlement
 left N own n = settlement (settling n 0 0 0) (take (key_count N) own) (drop (key_count N) own)
 
-module _ (N : Net) (own : List ℕ) {j : JobLine} where
-  pub no_job : j ≡ Refused → left N own 46 ≡ job_settlement N j own
+module _ (N : Net) (own : List ℕ) {j : Option Job} where
+  pub no_job : j ≡ None → left N own 46 ≡ job_settlement N j own
   unfolding job_settlement
   no_job e = rw e
 
-  module _ {A B q : ℕ} (asked : j ≡ Asked A B q) where
+  module _ {A B q : ℕ} (asked : j ≡ asks A B q) where
     pub bad_state : number_of N A B q ≢ 0 → left N own (number_of N A B q) ≡ job_settlement N j own
     unfolding job_settlement job_rows
     bad_state ne = rw asked (sym (settle_some N A B q (job_rows N A B q) (take (key_count N) own) (drop (key_count N) own) (answer (number_of N A B q) 0) (state_refused N A B q _ ne)))

@@ -12,7 +12,7 @@ use Rattle.net.specs.declared.Net.{Net}
 use Rattle.net.specs.Graph.{key_count}
 use Rattle.net.specs.Network.{stable}
 use Rattle.net.specs.WellFormed.{place_c1}
-use Rattle.sheet.specs.declared.Found.TheVariants.{At}
+use Rattle.std.specs.Prelude.{Some}
 use Rattle.sheet.specs.Rows.{answer, row, when, first_row, by_rows}
 use Rattle.sheet.specs.Search.{found_of}
 use Rattle.sheet.specs.Valid.{valid}
@@ -27,7 +27,7 @@ module _ (N : Net) (A B q : ℕ) (R T : List ℕ) where
   bad_record e = rw e
 
   module _ (ok : valid N ≡ true) where
-    pub breaks_c1 : {p : ℕ} → found_of (place_c1 N) ≡ At p → settlement (settling 31 p 0 0) R T ≡ settle_of N A B q R T
+    pub breaks_c1 : {p : ℕ} → found_of (place_c1 N) ≡ Some p → settlement (settling 31 p 0 0) R T ≡ settle_of N A B q R T
     unfolding settle_of settle_under settle_rows by_rows first_row
     breaks_c1 e = rw (ok, found_some (place_c1 N) e)
 

@@ -6,8 +6,8 @@ use Rattle.net.specs.Network.{is_input_state, is_key_state, stable}
 use Rattle.net.specs.WellFormed.{place_c1}
 use Rattle.sheet.specs.Limits.{line_width}
 use Rattle.sheet.specs.declared.Answer.{Answer}
-use Rattle.sheet.specs.declared.JobLine.{JobLine}
-use Rattle.sheet.specs.declared.JobLine.TheVariants.{Asked, Refused}
+use Rattle.std.specs.Prelude.{Option, Some, None}
+use Rattle.sheet.specs.declared.Job.{Job}
 use Rattle.sheet.specs.Rows.{Row, row, when, answer, by_rows}
 use Rattle.sheet.specs.Valid.{valid}
 use Rattle.sheet.specs.Job.{job_of, job_number}
@@ -38,13 +38,13 @@ job_rows N A B q =
     ∷ []
 
 -- one job on its own bytes of the result buffer; a line that is no job line is refused before the rows
-unfoldable pub job_settlement : Net → JobLine → List ℕ → Settlement
+unfoldable pub job_settlement : Net → Option Job → List ℕ → Settlement
 job_settlement N j own =
     let R = take (key_count N) own in
     let T = drop (key_count N) own in
     elim j [
-      | Asked A B q ↦ settle_under (job_rows N A B q) N A B q R T
-      | Refused ↦ unsettled (answer (job_number Refused) 0) R T
+      | Some line ↦ settle_under (job_rows N line.old line.new line.start) N line.old line.new line.start R T
+      | None ↦ unsettled (answer (job_number None) 0) R T
     ]
 
 -- what the two lent buffers hold

@@ -12,12 +12,11 @@ use Rattle.ternary.proofs.Tests.{ands, fails, cond_by}
 use Rattle.sheet.specs.declared.Line.{Line}
 use Rattle.sheet.specs.declared.Entry.{Entry}
 use Rattle.sheet.specs.declared.Entry.TheVariants.{Vertex, Edge}
-use Rattle.sheet.specs.declared.Decoded.{Decoded}
-use Rattle.sheet.specs.declared.Decoded.TheVariants.{Allowed, Refused}
+use Rattle.std.specs.Prelude.{Option, Some, None}
 use Rattle.sheet.specs.Rules.{vertex_ok, edge_ok}
 use Rattle.sheet.specs.Reading.{vertex_of, edge_of, vertex_line_ok, edge_line_ok, add_line}
 use Rattle.sheet.specs.Reading.Step.{next, stop}
-use Rattle.sheet.specs.Entries.{decode_line, with_entry, step_of, HasPlace}
+use Rattle.sheet.specs.Entries.{decode_line, refusal_of, with_entry, step_of, HasPlace}
 use Rattle.sheet.proofs.RuleLaws.{VertexRange, vertex_range, EdgeRange, edge_range}
 
 -- ---- a vertex line
@@ -72,20 +71,20 @@ module _ (N : Net) (v : Line) where
 
 module _ (N : Net) (j : ℕ) (v : Line) where
   module _ (below : j < N.vertex_count) where
-    pub vertex-refused : vertex_line_ok N j v ≡ false → Refused 15 ≡ decode_line N j v
+    pub vertex-refused : vertex_line_ok N j v ≡ false → None ≡ decode_line N j v
     unfolding decode_line
     vertex-refused t = rw (lt-ltb j N.vertex_count below, t)
 
-    pub vertex_allowed : vertex_line_ok N j v ≡ true → Allowed (Vertex (vertex_of v)) ≡ decode_line N j v
+    pub vertex_allowed : vertex_line_ok N j v ≡ true → Some (Vertex (vertex_of v)) ≡ decode_line N j v
     unfolding decode_line
     vertex_allowed t = rw (lt-ltb j N.vertex_count below, t)
 
   module _ (after : N.vertex_count ≤ j) where
-    pub edge-refused : edge_line_ok N v ≡ false → Refused 16 ≡ decode_line N j v
+    pub edge-refused : edge_line_ok N v ≡ false → None ≡ decode_line N j v
     unfolding decode_line
     edge-refused t = rw (le-ltb j N.vertex_count after, t)
 
-    pub edge_allowed : edge_line_ok N v ≡ true → Allowed (Edge (edge_of v)) ≡ decode_line N j v
+    pub edge_allowed : edge_line_ok N v ≡ true → Some (Edge (edge_of v)) ≡ decode_line N j v
     unfolding decode_line
     edge_allowed t = rw (le-ltb j N.vertex_count after, t)
 
@@ -95,7 +94,7 @@ module _ (N : Net) (j : ℕ) (v : Line) where
   decoded_step = go (ltb j N.vertex_count) (vertex_line_ok N j v) (edge_line_ok N v)
     where
       go : (b c d : Bool)
-          → step_of N j (cond b (cond c (Allowed (Vertex (vertex_of v))) (Refused 15)) (cond d (Allowed (Edge (edge_of v))) (Refused 16)))
+          → elim (cond b (cond c (Some (Vertex (vertex_of v))) None) (cond d (Some (Edge (edge_of v))) None)) [ Some x ↦ next (with_entry N j x) | None ↦ stop (cond b 15 16) ]
           ≡ cond b (cond c (next (with_entry N j (Vertex (vertex_of v)))) (stop 15)) (cond d (next (with_entry N j (Edge (edge_of v)))) (stop 16))
       go true true d = refl
       go true false d = refl
@@ -104,18 +103,18 @@ module _ (N : Net) (j : ℕ) (v : Line) where
 
   -- within the limits there is a place for what it adds
   module _ (below : j < N.vertex_count + N.edge_count) (few : N.vertex_count ≤ most_vertices) (few_edges : N.edge_count ≤ most_edges) where
-    pub entry_place : (x : Entry) → decode_line N j v ≡ Allowed x → HasPlace N j x
+    pub entry_place : (x : Entry) → decode_line N j v ≡ Some x → HasPlace N j x
     unfolding decode_line
     entry_place x =
         cond_by Placed (ltb j N.vertex_count)
         (λ t. let low = ltb-true j _ t in cond_by Placed (vertex_line_ok N j v) (λ _. placed (Vertex (vertex_of v)) (omega arith)) (λ _. never))
         (λ t. let high = ltb-false j _ t in cond_by Placed (edge_line_ok N v) (λ _. placed (Edge (edge_of v)) (high, omega arith)) (λ _. never))
       where
-        Placed : Decoded → Type 0
-        Placed d = d ≡ Allowed x → HasPlace N j x
+        Placed : Option Entry → Type 0
+        Placed d = d ≡ Some x → HasPlace N j x
 
-        placed : (y : Entry) → HasPlace N j y → Placed (Allowed y)
+        placed : (y : Entry) → HasPlace N j y → Placed (Some y)
         placed y h e = let same : y ≡ x = cc in subst (HasPlace N j) same h
 
-        never : {n : ℕ} → Placed (Refused n)
+        never : Placed None
         never e = absurd (true≢false (cc))

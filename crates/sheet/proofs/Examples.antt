@@ -10,7 +10,7 @@ use Rattle.net.specs.declared.Edge.{Edge}
 use Rattle.net.specs.declared.Net.{Net}
 use Rattle.net.specs.Limits.{most_letters, most_key_nodes, most_signals, letter_base, vertex_base}
 use Rattle.net.proofs.Concrete.{vertex, edge, net}
-use Rattle.sheet.specs.declared.JobLine.TheVariants.{Asked, Refused}
+use Rattle.std.specs.Prelude.{None}
 use Rattle.sheet.specs.Limits.{field_width, line_width, most_bytes}
 use Rattle.sheet.specs.Field.{read_field}
 use Rattle.sheet.specs.Line.{sheet_line, line_number}
@@ -20,7 +20,7 @@ use Rattle.sheet.specs.Graph.{key_place, graph_rows}
 use Rattle.sheet.specs.Reading.{with_vertices, with_edges, size_ok, read_sheet}
 use Rattle.sheet.specs.Writing.{write_sheet}
 use Rattle.sheet.specs.Valid.{valid}
-use Rattle.sheet.specs.Job.{job_of}
+use Rattle.sheet.specs.Job.{asks, job_of}
 use Rattle.sheet.specs.Text.{bytes}
 use Rattle.sheet.proofs.Sheets.{open_all, sheet_with, worked_sheet, worked_net}
 
@@ -138,11 +138,11 @@ line-numbers : line_number worked_sheet 0 ∷ line_number worked_sheet 2 ∷ lin
 unfolding open_all
 line-numbers = refl
 
-job : job_of (bytes "   4   0   1   1   0\n") ≡ Asked 0 1 1
+job : job_of (bytes "   4   0   1   1   0\n") ≡ asks 0 1 1
 unfolding open_all
 job = refl
 
-short_job : job_of (bytes "   4   0   1   1   0") ≡ Refused
+short_job : job_of (bytes "   4   0   1   1   0") ≡ None
 unfolding open_all
 short_job = refl
 

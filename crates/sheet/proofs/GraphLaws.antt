@@ -15,7 +15,7 @@ use Rattle.net.proofs.Keys.{key_at, key_storage}
 use Rattle.ternary.specs.Lists.{least_below}
 use Rattle.ternary.proofs.Tests.{ands, both, fails, not_both}
 use Rattle.ternary.proofs.ListLaws.{least_none, least_some, least_none_iff, least_some_iff}
-use Rattle.sheet.specs.declared.Found.TheVariants.{At, Nothing}
+use Rattle.std.specs.Prelude.{Some, None}
 use Rattle.sheet.specs.Rows.{answer, first_row, answered, NoRow}
 use Rattle.sheet.specs.Rows.NoRow.{end, next}
 use Rattle.sheet.specs.Pairs.{Paired, Unpaired, lacks_partner}
@@ -140,31 +140,31 @@ module _ (N : Net) where
 
 -- ---- what the code answers for a row's place, where its loop has found one and where it has found none
 
-pub partner_found : (N : Net) (i : ℕ) → least_below N.edge_count (lacks_partner N) ≡ some i → At (N.vertex_count + 2 + i) ≡ found_of (partner_place N)
+pub partner_found : (N : Net) (i : ℕ) → least_below N.edge_count (lacks_partner N) ≡ some i → Some (N.vertex_count + 2 + i) ≡ found_of (partner_place N)
 unfolding partner_place
-partner_found N i e = rw e (ap At (omega arith))
+partner_found N i e = rw e (ap Some (omega arith))
 
-pub partner_missing : (N : Net) → least_below N.edge_count (lacks_partner N) ≡ none → Nothing ≡ found_of (partner_place N)
+pub partner_missing : (N : Net) → least_below N.edge_count (lacks_partner N) ≡ none → None ≡ found_of (partner_place N)
 unfolding partner_place
 partner_missing N e = rw e
 
 -- ---- the first of the rows, by what the code found for each
 
 module _ (N : Net) where
-  pub answer_21 : (p : ℕ) → found_of (partner_place N) ≡ At p → answer 21 p ≡ answered (first_row (graph_rows N))
+  pub answer_21 : (p : ℕ) → found_of (partner_place N) ≡ Some p → answer 21 p ≡ answered (first_row (graph_rows N))
   unfolding graph_rows first_row
   answer_21 p e = rw (found_some (partner_place N) e)
 
-  pub answer_22 : (p : ℕ) → found_of (partner_place N) ≡ Nothing → found_of (key_place N) ≡ At p → answer 22 p ≡ answered (first_row (graph_rows N))
+  pub answer_22 : (p : ℕ) → found_of (partner_place N) ≡ None → found_of (key_place N) ≡ Some p → answer 22 p ≡ answered (first_row (graph_rows N))
   unfolding graph_rows first_row
   answer_22 p e f = rw (found_none (partner_place N) e, found_some (key_place N) f)
 
-  pub answer_23 : (p : ℕ) → found_of (partner_place N) ≡ Nothing → found_of (key_place N) ≡ Nothing → found_of (signal_place N) ≡ At p
+  pub answer_23 : (p : ℕ) → found_of (partner_place N) ≡ None → found_of (key_place N) ≡ None → found_of (signal_place N) ≡ Some p
       → answer 23 p ≡ answered (first_row (graph_rows N))
   unfolding graph_rows first_row
   answer_23 p e f g = rw (found_none (partner_place N) e, found_none (key_place N) f, found_some (signal_place N) g)
 
-  pub answer_none : found_of (partner_place N) ≡ Nothing → found_of (key_place N) ≡ Nothing → found_of (signal_place N) ≡ Nothing
+  pub answer_none : found_of (partner_place N) ≡ None → found_of (key_place N) ≡ None → found_of (signal_place N) ≡ None
       → answer 0 0 ≡ answered (first_row (graph_rows N))
   unfolding graph_rows first_row
   answer_none e f g = rw (found_none (partner_place N) e, found_none (key_place N) f, found_none (signal_place N) g)

@@ -10,7 +10,7 @@ use lib.ListN.{length, take, drop}
 use borrow.Author.Tests.{leb-true, eqb-true, eq-eqb, ne_eqb}
 use Rattle.ternary.proofs.Tests.{ands}
 use Rattle.sheet.specs.declared.Line.{Line}
-use Rattle.sheet.specs.declared.LineRead.TheVariants.{Five, Refused}
+use Rattle.std.specs.Prelude.{Some, None}
 use Rattle.sheet.specs.Limits.{line_bytes}
 use Rattle.sheet.specs.Line.{read_line, line_answer}
 use Rattle.sheet.specs.Rows.{answer}
@@ -41,11 +41,11 @@ module _ (w : ℕ) (b : List ℕ) where
       rw is (whole-first (line_bytes w) (length b) some_byte whole)
 
   module _ (size : size_ok w (length b) ≡ true) where
-    pub bad_first_line : line_answer (read_line w (take (line_bytes w) b)) ≡ Refused → refused (answer 12 1) ≡ read_in w b
+    pub bad_first_line : line_answer (read_line w (take (line_bytes w) b)) ≡ None → refused (answer 12 1) ≡ read_in w b
     unfolding read_in read_header
     bad_first_line e = rw (size, unread_of (read_line w (take (line_bytes w) b)) e)
 
-    module _ (h : Line) (five : line_answer (read_line w (take (line_bytes w) b)) ≡ Five h) where
+    module _ (h : Line) (five : line_answer (read_line w (take (line_bytes w) b)) ≡ Some h) where
       pub bad_header : header_ok h ≡ false → refused (answer 13 1) ≡ read_in w b
       unfolding read_in read_header
       bad_header e = rw (size, five_of (read_line w (take (line_bytes w) b)) h five, e)

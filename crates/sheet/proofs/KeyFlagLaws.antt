@@ -14,7 +14,7 @@ use Rattle.net.specs.declared.Net.{Net}
 use Rattle.net.specs.Limits.{most_vertices, most_key_nodes}
 use Rattle.net.specs.Graph.{is_key, keys, key_count, key_vertex}
 use Rattle.net.specs.Tables.{key_flags}
-use Rattle.sheet.specs.declared.Found.TheVariants.{At, Nothing}
+use Rattle.std.specs.Prelude.{Some, None}
 use Rattle.sheet.specs.Graph.{key_place}
 use Rattle.sheet.specs.Search.{found_of}
 use Rattle.sheet.proofs.GraphLaws.{key_none, key_some}
@@ -37,7 +37,7 @@ module _ (N : Net) (flags : List ℕ) (e : flags ≡ key_flags N) where
 
   -- the count passes the limit at v
   pub key_found : (v : ℕ) → v ≤ N.vertex_count → N.vertex_count ≤ most_vertices → count_below v (flagged flags) ≤ most_key_nodes
-      → most_key_nodes < count_below (v + 1) (flagged flags) → At v ≡ found_of (key_place N)
+      → most_key_nodes < count_below (v + 1) (flagged flags) → Some v ≡ found_of (key_place N)
   unfolding key_count key_vertex keys
   key_found v low few before after = rw ((key_some N v).1 (go (is_key N v) refl))
     where
@@ -53,7 +53,7 @@ module _ (N : Net) (flags : List ℕ) (e : flags ≡ key_flags N) where
 
   -- it never does
   pub key_missing : (v : ℕ) → v ≡ suc N.vertex_count → N.vertex_count ≤ most_vertices → count_below v (flagged flags) ≤ most_key_nodes
-      → Nothing ≡ found_of (key_place N)
+      → None ≡ found_of (key_place N)
   unfolding key_count keys
   key_missing v end few most =
       let all : key_count N ≤ most_key_nodes = rw length_list (rw (end, keys-counted (suc N.vertex_count) (omega arith)) at most) in

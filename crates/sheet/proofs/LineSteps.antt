@@ -13,9 +13,8 @@ use borrow.Author.Tests.{le-leb, leb-true}
 use Rattle.ternary.specs.Lists.{same}
 use Rattle.ternary.proofs.Tests.{cond_by, fails, same_test}
 use Rattle.ternary.proofs.ListLaws.{same_true}
-use Rattle.sheet.specs.declared.Field.TheVariants.{Number, Refused}
+use Rattle.std.specs.Prelude.{Some, None}
 use Rattle.sheet.specs.declared.Line.{Line}
-use Rattle.sheet.specs.declared.LineRead.TheVariants.{Five, Refused as Unread}
 use Rattle.sheet.specs.Limits.{field_count, line_bytes, line_end}
 use Rattle.sheet.specs.Field.{field_answer}
 use Rattle.sheet.specs.Line.{line, field_at, five_fields, read_line, line_answer, FullLineIn, has_line, line_in}
@@ -24,11 +23,11 @@ use Rattle.sheet.proofs.LineLaws.{five, line_bytes_lem, line_room}
 
 -- ---- the five numbers of a line
 
-pub number_of : (o : Option ℕ) (n : ℕ) → field_answer o ≡ Number n → o ≡ some n
+pub number_of : (o : Option ℕ) (n : ℕ) → field_answer o ≡ Some n → o ≡ some n
 number_of none n e = absurd (true≢false (cc))
 number_of (some m) n e = cc
 
-pub refused_of : (o : Option ℕ) → field_answer o ≡ Refused → o ≡ none
+pub refused_of : (o : Option ℕ) → field_answer o ≡ None → o ≡ none
 refused_of none e = refl
 refused_of (some m) e = absurd (true≢false (cc))
 
@@ -44,7 +43,7 @@ not_five f (suc (suc (suc zero))) h gone v e = clash (f 3) _ gone (five v (f 0) 
 not_five f (suc (suc (suc (suc zero)))) h gone v e = clash (f 4) _ gone (five v (f 0) (f 1) (f 2) (f 3) (f 4) e).fifth
 not_five f (suc (suc (suc (suc (suc i))))) h gone v e = absurd (omega (arith, h))
 
-pub missing_field : (w : ℕ) (b : List ℕ) (i : ℕ) → i < field_count → field_answer (field_at w b i) ≡ Refused → read_line w b ≡ none
+pub missing_field : (w : ℕ) (b : List ℕ) (i : ℕ) → i < field_count → field_answer (field_at w b i) ≡ None → read_line w b ≡ none
 unfolding read_line
 missing_field w b i h e =
     cond_by (λ o. o ≡ none) (same (drop (w * field_count) b) (line_end ∷ []))
@@ -83,8 +82,8 @@ module _ (w : ℕ) (b : List ℕ) (width : ℕ) (is : width ≡ line_bytes w) wh
         rw (last, read_line)
 
     module _ (k l m n o : ℕ) where
-      pub all_fields : field_answer (field_at w b 0) ≡ Number k → field_answer (field_at w b 1) ≡ Number l → field_answer (field_at w b 2) ≡ Number m
-          → field_answer (field_at w b 3) ≡ Number n → field_answer (field_at w b 4) ≡ Number o → read_line w b ≡ some (line k l m n o)
+      pub all_fields : field_answer (field_at w b 0) ≡ Some k → field_answer (field_at w b 1) ≡ Some l → field_answer (field_at w b 2) ≡ Some m
+          → field_answer (field_at w b 3) ≡ Some n → field_answer (field_at w b 4) ≡ Some o → read_line w b ≡ some (line k l m n o)
       unfolding five_fields
       all_fields e0 e1 e2 e3 e4 =
           rw (
@@ -98,11 +97,11 @@ module _ (w : ℕ) (b : List ℕ) (width : ℕ) (is : width ≡ line_bytes w) wh
 
 -- ---- what the code's answer for a line says
 
-pub five_of : (o : Option Line) (v : Line) → line_answer o ≡ Five v → o ≡ some v
+pub five_of : (o : Option Line) (v : Line) → line_answer o ≡ Some v → o ≡ some v
 five_of none v e = absurd (true≢false (cc))
 five_of (some w) v e = cc
 
-pub unread_of : (o : Option Line) → line_answer o ≡ Unread → o ≡ none
+pub unread_of : (o : Option Line) → line_answer o ≡ None → o ≡ none
 unread_of none e = refl
 unread_of (some w) e = absurd (true≢false (cc))
 

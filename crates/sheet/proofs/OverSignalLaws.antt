@@ -19,7 +19,7 @@ use Rattle.ternary.proofs.ListLaws.{least_none}
 use Rattle.net.proofs.TableLaws.{storage_test}
 use Rattle.net.proofs.SignalLists.{signals_component}
 use Rattle.net.proofs.Members.{lowest_member_lem}
-use Rattle.sheet.specs.declared.Found.TheVariants.{At, Nothing}
+use Rattle.std.specs.Prelude.{Some, None}
 use Rattle.sheet.specs.Graph.{over_signals, signal_place}
 use Rattle.sheet.specs.Search.{found_of}
 
@@ -45,10 +45,10 @@ module _ (N : Net) {storage labels : List ℕ} (p : Prepared N storage labels) (
       ⊎_elim (λ q. absurd (n q)) (λ m. sym (same_over _ m.1 ∙ (least_none (over_signals N) y).0 e _ m.0))
       (lowest_member_lem N p y low (flag_set f))
 
-pub signal_found : (N : Net) (y : ℕ) → least_below (suc N.vertex_count) (over_signals N) ≡ some y → At y ≡ found_of (signal_place N)
+pub signal_found : (N : Net) (y : ℕ) → least_below (suc N.vertex_count) (over_signals N) ≡ some y → Some y ≡ found_of (signal_place N)
 unfolding signal_place
 signal_found N y e = rw e
 
-pub signal_missing : (N : Net) → least_below (suc N.vertex_count) (over_signals N) ≡ none → Nothing ≡ found_of (signal_place N)
+pub signal_missing : (N : Net) → least_below (suc N.vertex_count) (over_signals N) ≡ none → None ≡ found_of (signal_place N)
 unfolding signal_place
 signal_missing N e = rw e

@@ -10,8 +10,7 @@ use Rattle.net.specs.declared.Net.{Net}
 use Rattle.sheet.specs.declared.Answer.{Answer}
 use Rattle.sheet.specs.declared.Line.{Line}
 use Rattle.sheet.specs.declared.Entry.{Entry}
-use Rattle.sheet.specs.declared.Decoded.TheVariants.{Allowed, Refused}
-use Rattle.sheet.specs.declared.LineRead.TheVariants.{Five, Refused as NoLine}
+use Rattle.std.specs.Prelude.{Some, None}
 use Rattle.sheet.specs.Limits.{line_bytes}
 use Rattle.sheet.specs.Line.{read_line, line_answer}
 use Rattle.sheet.specs.Rows.{first_row, answered}
@@ -19,7 +18,7 @@ use Rattle.sheet.specs.Record.{refused}
 use Rattle.sheet.specs.Graph.{graph_rows}
 use Rattle.sheet.specs.Reading.{add_line, step_line, conclude}
 use Rattle.sheet.specs.Reading.Step.{next, stop}
-use Rattle.sheet.specs.Entries.{decode_line, with_entry, step_of}
+use Rattle.sheet.specs.Entries.{decode_line, refusal_of, with_entry, step_of}
 use Rattle.sheet.proofs.LineSteps.{five_of, unread_of, part}
 use Rattle.sheet.proofs.BodySteps.{decoded_step}
 use Rattle.sheet.proofs.RowLaws.{positive, answered_zero, first_none}
@@ -33,24 +32,24 @@ module _ (w : ℕ) (b : List ℕ) (at j : ℕ) (N : Net) (width : ℕ) (is : wid
   whole-line = part b at width ∙ rw is
 
   -- it is not five fields
-  pub not_fields : line_answer (read_line w (lent width b at)) ≡ NoLine → step_line (read_line w (take (line_bytes w) (drop at b))) j N ≡ stop 12
+  pub not_fields : line_answer (read_line w (lent width b at)) ≡ None → step_line (read_line w (take (line_bytes w) (drop at b))) j N ≡ stop 12
   unfolding step_line
   not_fields e = rw (unread_of (read_line w (take (line_bytes w) (drop at b))) (rw whole-line at e))
 
-  module _ (v : Line) (five : line_answer (read_line w (lent width b at)) ≡ Five v) where
+  module _ (v : Line) (five : line_answer (read_line w (lent width b at)) ≡ Some v) where
     step_is : step_line (read_line w (take (line_bytes w) (drop at b))) j N ≡ add_line N j v
     unfolding step_line
     step_is = rw (five_of (read_line w (take (line_bytes w) (drop at b))) v (rw whole-line at five))
 
     -- its values are refused
-    pub line_stops : (n : ℕ) → decode_line N j v ≡ Refused n → step_line (read_line w (take (line_bytes w) (drop at b))) j N ≡ stop n
-    line_stops n e = step_is ∙ sym (decoded_step N j v) ∙ ap (step_of N j) e
+    pub line_stops : decode_line N j v ≡ None → step_line (read_line w (take (line_bytes w) (drop at b))) j N ≡ stop (refusal_of N j)
+    line_stops e = step_is ∙ sym (decoded_step N j v) ∙ ap (step_of N j) e
 
     -- what it adds is added
-    pub line-goes_on : (x : Entry) → decode_line N j v ≡ Allowed x → add_line N j v ≡ next (with_entry N j x)
+    pub line-goes_on : (x : Entry) → decode_line N j v ≡ Some x → add_line N j v ≡ next (with_entry N j x)
     line-goes_on x e = sym (decoded_step N j v) ∙ ap (step_of N j) e
 
-    pub line_steps : (x : Entry) → decode_line N j v ≡ Allowed x → step_line (read_line w (take (line_bytes w) (drop at b))) j N ≡ next (with_entry N j x)
+    pub line_steps : (x : Entry) → decode_line N j v ≡ Some x → step_line (read_line w (take (line_bytes w) (drop at b))) j N ≡ next (with_entry N j x)
     line_steps x e = step_is ∙ line-goes_on x e
 
 -- ---- the end of the sheet, by the answer of the rows over the graph

@@ -4,13 +4,13 @@ use Prim.Native.Nat.{ℕ}
 use Prim.Native.String.{String}
 use mathlib.Core.Path.{◌≡◌, refl}
 use mathlib.Core.List.{List, ◌++◌}
-use Rattle.sheet.specs.declared.JobLine.TheVariants.{Asked, Refused}
+use Rattle.std.specs.Prelude.{None}
 use Rattle.sheet.specs.Limits.{field_width, record_columns}
 use Rattle.sheet.specs.Rows.{answer}
 use Rattle.sheet.specs.Record.{refused, accepted}
 use Rattle.sheet.specs.Reading.{read_in}
 use Rattle.sheet.specs.Writing.{write_in}
-use Rattle.sheet.specs.Job.{job_in}
+use Rattle.sheet.specs.Job.{asks, job_in}
 use Rattle.sheet.specs.Text.{bytes}
 use Rattle.sheet.proofs.Sheets.{open_all, worked_sheet, worked_net}
 
@@ -82,10 +82,10 @@ unfolding open_all
 symbol_beyond_16_bits = refl
 
 -- job lines
-wide_job : job_in wide (bytes "     4     3    12 65535     0\n") ≡ Asked 3 12 65535
+wide_job : job_in wide (bytes "     4     3    12 65535     0\n") ≡ asks 3 12 65535
 unfolding open_all
 wide_job = refl
 
-narrow_job : job_in wide (bytes "   4   3  12   7   0\n") ≡ Refused
+narrow_job : job_in wide (bytes "   4   3  12   7   0\n") ≡ None
 unfolding open_all
 narrow_job = refl

@@ -1,27 +1,24 @@
 -- For the code alone: a line below the header is decoded, without the record, to what it adds; the record with it is a second step.
-use Rattle.std.specs.Prelude.{ℕ, ◌-◌, ◌≤◌, ◌<◌, cond, ltb, set}
+use Rattle.std.specs.Prelude.{ℕ, ◌-◌, ◌≤◌, ◌<◌, cond, ltb, set, Option, Some, None}
 use Rattle.net.specs.declared.Net.{Net}
 use Rattle.net.specs.Limits.{most_vertices, most_edges}
 use Rattle.sheet.specs.declared.Line.{Line}
 use Rattle.sheet.specs.declared.Entry.{Entry}
 use Rattle.sheet.specs.declared.Entry.TheVariants.{Vertex, Edge}
-use Rattle.sheet.specs.declared.Decoded.{Decoded}
-use Rattle.sheet.specs.declared.Decoded.TheVariants.{Allowed, Refused}
 use Rattle.sheet.specs.Reading.Step.{next, stop}
 use Rattle.sheet.specs.Reading.{Step, vertex_of, edge_of, with_vertices, with_edges, vertex_line_ok, edge_line_ok}
 
--- line j of five numbers: a vertex where j is below the vertex count, else an edge; or the number of its refusal
-unfoldable pub decode_line : Net → ℕ → Line → Decoded
+-- line j of five numbers: a vertex where j is below the vertex count, else an edge; nothing where its values are refused
+unfoldable pub decode_line : Net → ℕ → Line → Option Entry
 decode_line N j v =
     cond
     (ltb j N.vertex_count)
-    (cond (vertex_line_ok N j v) (Allowed (Vertex (vertex_of v))) (Refused 15))
-    (cond (edge_line_ok N v) (Allowed (Edge (edge_of v))) (Refused 16))
+    (cond (vertex_line_ok N j v) (Some (Vertex (vertex_of v))) None)
+    (cond (edge_line_ok N v) (Some (Edge (edge_of v))) None)
 
--- the number of a refusal; 0 where there is none
-abbrev pub refusal_of : Decoded → ℕ
-refusal_of (Allowed x) = 0
-refusal_of (Refused n) = n
+-- the number that line j is refused with
+abbrev pub refusal_of : Net → ℕ → ℕ
+refusal_of N j = cond (ltb j N.vertex_count) 15 16
 
 -- the record with what line j adds
 abbrev pub with_entry : Net → ℕ → Entry → Net
@@ -29,9 +26,9 @@ with_entry N j (Vertex x) = with_vertices N (set N.vertices j x)
 with_entry N j (Edge e) = with_edges N (set N.edges (j - N.vertex_count) e)
 
 -- reading goes on with that record, or stops with the number of the refusal
-abbrev pub step_of : Net → ℕ → Decoded → Step
-step_of N j (Allowed x) = next (with_entry N j x)
-step_of N j (Refused n) = stop n
+abbrev pub step_of : Net → ℕ → Option Entry → Step
+step_of N j (Some x) = next (with_entry N j x)
+step_of N j None = stop (refusal_of N j)
 
 -- the record has a place for what line j adds
 abbrev pub HasPlace : Net → ℕ → Entry → Type 0

@@ -2,8 +2,8 @@
 use Rattle.std.specs.Prelude.{ℕ, zero, suc, ◌+◌, ◌-◌, ◌*◌, ◌/◌, ◌%◌, ◌^◌, cond, [], ◌∷◌, ltb, length}
 use Rattle.std.proofs.Math.Option.{Option, none, some}
 use Rattle.ternary.specs.Lists.{Bytes, same}
-use Rattle.sheet.specs.declared.Field.{Field}
-use Rattle.sheet.specs.declared.Field.TheVariants.{Number, Refused}
+use Rattle.std.specs.Prelude.{Some, None}
+use Rattle.std.specs.Prelude.{Option as Answered}
 use Rattle.sheet.specs.Limits.{Columns, blank, digit_zero}
 
 -- the column of n that weighs 10 ^ k: blank before n's first digit; the last column is always a digit
@@ -26,6 +26,6 @@ unfoldable pub read_field : Columns → Bytes → Option ℕ
 read_field w b = cond (same b (write_field w (field_value b))) (some (field_value b)) none
 
 -- the code's answer for a field
-abbrev pub field_answer : Option ℕ → Field
-field_answer none = Refused
-field_answer (some n) = Number n
+abbrev pub field_answer : Option ℕ → Answered ℕ
+field_answer none = None
+field_answer (some n) = Some n

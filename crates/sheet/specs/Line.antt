@@ -3,8 +3,8 @@ use Rattle.std.specs.Prelude.{ℕ, ◌-◌, ◌*◌, ◌≤◌, Bool, cond, ◌&
 use Rattle.std.proofs.Math.Option.{Option, none, some}
 use Rattle.ternary.specs.Lists.{Bytes, same}
 use Rattle.sheet.specs.declared.Line.{Line}
-use Rattle.sheet.specs.declared.LineRead.{LineRead}
-use Rattle.sheet.specs.declared.LineRead.TheVariants.{Five, Refused}
+use Rattle.std.specs.Prelude.{Some, None}
+use Rattle.std.specs.Prelude.{Option as Answered}
 use Rattle.sheet.specs.Limits.{Columns, field_width, field_count, line_bytes, line_end}
 use Rattle.sheet.specs.Field.{write_field, read_field}
 
@@ -37,9 +37,9 @@ read_line w b =
     none
 
 -- the code's answer for a line
-abbrev pub line_answer : Option Line → LineRead
-line_answer none = Refused
-line_answer (some v) = Five v
+abbrev pub line_answer : Option Line → Answered Line
+line_answer none = None
+line_answer (some v) = Some v
 
 -- ---- the call for one line of a sheet
 

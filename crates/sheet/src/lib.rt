@@ -35,13 +35,6 @@ impl Sheet {
     pub const EDITION: u32 = 1;
 }
 
-// What a field reads as.
-#[derive(Clone, Copy)]
-pub enum Field {
-    Number(u32),
-    Refused,
-}
-
 // The five numbers of a line; the first says of what kind the line is.
 #[derive(Clone, Copy)]
 pub struct Line {
@@ -65,13 +58,6 @@ impl Line {
     pub const GATES: u32 = 6;
 
     pub const GATE: u32 = 7;
-}
-
-// What a line reads as.
-#[derive(Clone, Copy)]
-pub enum LineRead {
-    Five(Line),
-    Refused,
 }
 
 // What the form of an edge is: plain, or primed, and then in need of a partner.
@@ -135,25 +121,11 @@ impl Answer {
     pub const BAD_GATE_LINE: u8 = 52;
 }
 
-// The place of a row, if its condition holds.
-#[derive(Clone, Copy)]
-pub enum Found {
-    At(u16),
-    Nothing,
-}
-
 // What a line below the header adds to the record.
 #[derive(Clone, Copy)]
 pub enum Entry {
     Vertex(Vertex),
     Edge(Edge),
-}
-
-// What such a line is decoded to: what it adds, or the number of its refusal.
-#[derive(Clone, Copy)]
-pub enum Decoded {
-    Allowed(Entry),
-    Refused(u8),
 }
 
 // What reading a sheet gives: under a number the record is empty.
@@ -163,11 +135,12 @@ pub struct Reading {
     pub net: Net,
 }
 
-// A job line asks for settling from an old input state to a new one, from a start.
+// What a job line asks for: settling from an old input state to a new one, from a start.
 #[derive(Clone, Copy)]
-pub enum JobLine {
-    Asked(u32, u32, u32),
-    Refused,
+pub struct Job {
+    pub old: u32,
+    pub new: u32,
+    pub start: u32,
 }
 
 // The widths and bytes as one value, to hold the constants to the definitions.

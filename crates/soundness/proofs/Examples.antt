@@ -6,7 +6,7 @@ use Rattle.net.proofs.Concrete.{vertex, edge, net}
 use Rattle.sheet.specs.Rows.{answer, by_rows}
 use Rattle.sheet.specs.Record.{empty_net}
 use Rattle.sheet.proofs.Sheets.{open_all, worked_net}
-use Rattle.soundness.specs.declared.Excited.TheVariants.{Value, Refused}
+use Rattle.std.specs.Prelude.{Ok, Err}
 use Rattle.soundness.specs.Excited.{excitation_rows, excited_of}
 use Rattle.soundness.specs.Verdict.{verdict_rows, verdict_of}
 
@@ -15,13 +15,13 @@ unfolding open_all by_rows excitation_rows excited_of verdict_rows verdict_of wo
 opened = tt
 
 -- vertex 3 of the worked net is (a y)', y being itself: 1 at a = 0, and unstable at a = 1
-worked-excitation : map (λ a. excited_of worked_net a 1 3) (0 ∷ 1 ∷ []) ≡ Value 1 ∷ Value 0 ∷ []
+worked-excitation : map (λ a. excited_of worked_net a 1 3) (0 ∷ 1 ∷ []) ≡ Ok 1 ∷ Ok 0 ∷ []
 unfolding opened
 worked-excitation = refl
 
 -- 41; 42 before 43; 43 before 48; 48 for an input vertex, for vertex 0 and for one above V
 refusals : excited_of empty_net 9 9 9 ∷ excited_of worked_net 2 2 1 ∷ excited_of worked_net 1 2 1 ∷ map (excited_of worked_net 1 1) (1 ∷ 0 ∷ 5 ∷ [])
-    ≡ Refused 41 ∷ Refused 42 ∷ Refused 43 ∷ Refused 48 ∷ Refused 48 ∷ Refused 48 ∷ []
+    ≡ Err 41 ∷ Err 42 ∷ Err 43 ∷ Err 48 ∷ Err 48 ∷ Err 48 ∷ []
 unfolding opened
 refusals = refl
 

@@ -15,32 +15,32 @@ use Rattle.sheet.specs.declared.Answer.{Answer}
 use Rattle.sheet.specs.Rows.{Row, first_row, First, NoRow}
 use Rattle.sheet.specs.Valid.{valid}
 use Rattle.sheet.proofs.RowLaws.{RowsAnswer, nothing, found, rows-answer, positive, positive-first, first_none, by_rows_fit, by_rows-first}
-use Rattle.soundness.specs.declared.Excited.TheVariants.{Value, Refused}
+use Rattle.std.specs.Prelude.{Ok, Err}
 use Rattle.soundness.specs.Excited.{excitation_rows, excited_of, excited_number}
 
 module _ (N : Net) (a q y : ℕ) where
   abbrev rows : List Row
   rows = excitation_rows N a q y
 
-  no_row : NoRow rows → excited_of N a q y ≡ Value (excitation N a q y)
+  no_row : NoRow rows → excited_of N a q y ≡ Ok (excitation N a q y)
   unfolding excited_of
   no_row h = by_rows_fit rows _ _ h
 
-  a_row : (n p : ℕ) → First rows n p → excited_of N a q y ≡ Refused n
+  a_row : (n p : ℕ) → First rows n p → excited_of N a q y ≡ Err n
   unfolding excited_of
   a_row n p h = by_rows-first rows _ _ n p h
 
-  pub excited_value_lem : (v : ℕ) → (excited_of N a q y ≡ Value v) ↔ (NoRow rows × (excitation N a q y ≡ v))
-  excited_value_lem v = (λ e. there e (rows-answer rows), λ h. no_row h.0 ∙ ap Value h.1)
+  pub excited_value_lem : (v : ℕ) → (excited_of N a q y ≡ Ok v) ↔ (NoRow rows × (excitation N a q y ≡ v))
+  excited_value_lem v = (λ e. there e (rows-answer rows), λ h. no_row h.0 ∙ ap Ok h.1)
     where
-      there : excited_of N a q y ≡ Value v → {o : Option Answer} → RowsAnswer rows o → NoRow rows × (excitation N a q y ≡ v)
+      there : excited_of N a q y ≡ Ok v → {o : Option Answer} → RowsAnswer rows o → NoRow rows × (excitation N a q y ≡ v)
       there e (nothing h) = let f = no_row h in (h, cc)
       there e (found {n = n} {p = p} h) = let f = a_row n p h in absurd (true≢false (cc))
 
-  pub excited_refused : (n : ℕ) → (excited_of N a q y ≡ Refused n) ↔ ((p : ℕ) × First rows n p)
+  pub excited_refused : (n : ℕ) → (excited_of N a q y ≡ Err n) ↔ ((p : ℕ) × First rows n p)
   excited_refused n = (λ e. there e (rows-answer rows), λ (p, h). a_row n p h)
     where
-      there : excited_of N a q y ≡ Refused n → {o : Option Answer} → RowsAnswer rows o → (p : ℕ) × First rows n p
+      there : excited_of N a q y ≡ Err n → {o : Option Answer} → RowsAnswer rows o → (p : ℕ) × First rows n p
       there e (nothing h) = let f = no_row h in absurd (true≢false (cc))
       there e (found {n = m} {p = p} h) =
           let f = a_row m p h in
@@ -48,7 +48,7 @@ module _ (N : Net) (a q y : ℕ) where
           (p, subst (λ (k : ℕ). First rows k p) same h)
 
   -- fit numbers give a value
-  pub excited_accepts : valid N ≡ true → Clean N a q → is_storage N y ≡ true → excited_of N a q y ≡ Value (excitation N a q y)
+  pub excited_accepts : valid N ≡ true → Clean N a q → is_storage N y ≡ true → excited_of N a q y ≡ Ok (excitation N a q y)
   unfolding excitation_rows first_row
   excited_accepts v c s = no_row ((first_none rows).0 (rows_pass v c s))
     where

@@ -4,13 +4,6 @@
 
 use sheet::Answer;
 
-// The excitation of one vertex: its value, or a number.
-#[derive(Clone, Copy)]
-pub enum Excited {
-    Value(u8),
-    Refused(u8),
-}
-
 // The number of key nodes of a record, 0 under a number.
 #[derive(Clone, Copy)]
 pub struct KeyNodes {

@@ -18,7 +18,7 @@ use Rattle.lanes.specs.Lanes.{assignments, lane}
 use Rattle.excitations.specs.Fit.{Fit}
 use Rattle.excitations.specs.Excitations.{excitation_lanes}
 use Rattle.troubles.proofs.FirstLaws.{place_c1_lem}
-use Rattle.sheet.specs.declared.Found.TheVariants.{At, Nothing}
+use Rattle.std.specs.Prelude.{Some, None}
 use Rattle.sheet.specs.Search.{found_of}
 
 -- by a table of flags and one of excitations: v is a key node that is somewhere excited to 2, 3 or 5
@@ -34,8 +34,8 @@ module _ (N : Net) (fit : Fit N) where
     place : least_below (suc N.vertex_count) (breaking keys ex) ≡ place_c1 N
     place = least_ext _ _ _ (λ v _. rw (ek, ee, key_test v)) ∙ sym (place_c1_lem N fit)
 
-    pub break_found : (y : ℕ) → least_below (suc N.vertex_count) (breaking keys ex) ≡ some y → At y ≡ found_of (place_c1 N)
+    pub break_found : (y : ℕ) → least_below (suc N.vertex_count) (breaking keys ex) ≡ some y → Some y ≡ found_of (place_c1 N)
     break_found y e = rw (sym place ∙ e)
 
-    pub break_missing : least_below (suc N.vertex_count) (breaking keys ex) ≡ none → Nothing ≡ found_of (place_c1 N)
+    pub break_missing : least_below (suc N.vertex_count) (breaking keys ex) ≡ none → None ≡ found_of (place_c1 N)
     break_missing e = rw (sym place ∙ e)
