@@ -16,7 +16,7 @@ use Rattle.std.specs.Prelude.{Option, Some, None}
 use Rattle.sheet.specs.Rules.{vertex_ok, edge_ok}
 use Rattle.sheet.specs.Reading.{vertex_of, edge_of, vertex_line_ok, edge_line_ok, add_line}
 use Rattle.sheet.specs.Reading.Step.{next, stop}
-use Rattle.sheet.specs.Entries.{decode_line, refusal_of, with_entry, step_of, HasPlace}
+use Rattle.sheet.specs.Entries.{decode_line, with_entry, step_of, HasPlace}
 use Rattle.sheet.proofs.RuleLaws.{VertexRange, vertex_range, EdgeRange, edge_range}
 
 -- ---- a vertex line

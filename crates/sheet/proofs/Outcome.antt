@@ -12,7 +12,7 @@ use borrow.Author.Tests.{not-false}
 use Rattle.sheet.specs.declared.Answer.{Answer}
 use Rattle.sheet.specs.declared.Reading.{Reading}
 use Rattle.sheet.specs.Limits.{line_bytes}
-use Rattle.sheet.specs.Rows.{answer, row, when_at, First}
+use Rattle.sheet.specs.Rows.{row, when_at, First}
 use Rattle.sheet.specs.Rows.First.{here, later}
 use Rattle.sheet.specs.Record.{accepted}
 use Rattle.sheet.specs.Graph.{graph_rows}
