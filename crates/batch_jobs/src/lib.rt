@@ -11,7 +11,7 @@ ghost use Rattle.settlements.specs.Ready.{Ready};
 
 use net::Net;
 use settlements::Settling;
-use sheet::{Answer, JobLine, Sheet};
+use sheet::{Answer, Sheet};
 
 // One job on its own bytes: its r, then its t.
 fn job<'a, 'b>(
@@ -25,11 +25,11 @@ fn job<'a, 'b>(
     requires { Ready net h tables.now additions.now × (length own.old ≡ job_width net) }
     ensures { settlement result (take (key_count net) own.new) (drop (key_count net) own.new) ≡ job_settlement net (job_of line.now) own.old }
 {
-    let JobLine::Asked(old, new, start) = line_values::job(line) else {
+    let Some(asked) = line_values::job(line) else {
         return job_tests::refused(Answer::NO_JOB, 0);
     };
     let letters = net.letter_count as usize;
-    let number = job_tests::state_number(letters, h, old, new, start);
+    let number = job_tests::state_number(letters, h, asked.old, asked.new, asked.start);
     if number != 0 {
         return job_tests::refused(number, 0);
     }
@@ -37,9 +37,9 @@ fn job<'a, 'b>(
         tables,
         additions,
         h,
-        old as usize,
-        new as usize,
-        start as usize,
+        asked.old as usize,
+        asked.new as usize,
+        asked.start as usize,
     );
     if !passed.stable {
         return job_tests::refused(Answer::UNSTABLE_START, 0);

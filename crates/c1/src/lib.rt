@@ -13,7 +13,6 @@ ghost use Rattle.excitations.specs.Excitations.{excitation_lanes};
 ghost use Rattle.sheet.specs.Search.{found_of};
 
 use net::Net;
-use sheet::Found;
 
 // 1 for an excitation of 2, 3 or 5, else 0.
 fn is_broken(excitation: u8) -> u8
@@ -51,21 +50,21 @@ fn lowest_in_rows<'a>(
     net: Net,
     keys: &'a [u8; Net::VERTEX_PLACES],
     excitations: &'a [u8; Net::VERTEX_LANES],
-) -> Found
+) -> Option<u16>
     requires { Fit net × (keys.now ≡ key_flags net) × (excitations.now ≡ excitation_lanes net) }
     ensures { result ≡ found_of (place_c1 net) }
 {
     let end = net.vertex_count as usize + 1;
     for y in 0..end {
         if breaks(keys[y], excitations, y) {
-            return Found::At(y as u16);
+            return Some(y as u16);
         }
     }
-    Found::Nothing
+    None
 }
 
 // The lowest vertex that breaks C1. The table of excitations, which tells it, is left to the caller.
-pub fn lowest_break<'a>(net: Net, excitations: &'a mut [u8; Net::VERTEX_LANES]) -> Found
+pub fn lowest_break<'a>(net: Net, excitations: &'a mut [u8; Net::VERTEX_LANES]) -> Option<u16>
     requires { Fit net × (length excitations.old ≡ suc most_vertices * assignments) }
     ensures { (result ≡ found_of (place_c1 net)) × (excitations.new ≡ excitation_lanes net) }
 {

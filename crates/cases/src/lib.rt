@@ -8,7 +8,7 @@ ghost use Rattle.cases.specs.Input.{part_of, number_at, data_of, next_of};
 
 mod streams;
 
-use sheet::{Field, Sheet};
+use sheet::Sheet;
 pub use streams::{at_most, read_input};
 
 #[derive(Clone, Copy)]
@@ -59,8 +59,8 @@ pub fn number_at(input: &[u8], at: usize) -> u32
     ensures { result ≡ number_at input.now at }
 {
     match fields::read_field(part(input, at, Sheet::MOST_COLUMNS), Sheet::MOST_COLUMNS) {
-        Field::Number(n) => n,
-        Field::Refused => u32::MAX,
+        Some(n) => n,
+        None => u32::MAX,
     }
 }
 

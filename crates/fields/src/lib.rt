@@ -6,7 +6,7 @@ ghost use Rattle.ternary.specs.Lists.{same};
 ghost use Rattle.sheet.specs.Limits.{most_columns, ReadColumns, blank, digit_zero};
 ghost use Rattle.sheet.specs.Field.{field_value, write_field, read_field, field_answer};
 
-use sheet::{Field, Sheet};
+use sheet::Sheet;
 
 // Numbers are decimal.
 const BASE: u64 = 10;
@@ -72,18 +72,18 @@ fn is_field(b: &[u8], n: u64) -> bool
 }
 
 // A field is a number's exactly if writing the number in its columns gives the same bytes.
-pub fn read_field(b: &[u8], columns: usize) -> Field
+pub fn read_field(b: &[u8], columns: usize) -> Option<u32>
     requires { ReadColumns columns }
     ensures { result ≡ field_answer (read_field columns b.now) }
 {
     if b.len() != columns {
-        return Field::Refused;
+        return None;
     }
     let n = value(b);
     if is_field(b, n) {
-        return Field::Number(n as u32);
+        return Some(n as u32);
     }
-    Field::Refused
+    None
 }
 
 // Writes n in as many columns as are lent; of a number of more digits the last ones.

@@ -8,7 +8,6 @@ ghost use Rattle.std.specs.Prelude.{◌<◌, ◌≡◌, length};
 use cases::{Case, Input, at_most, data_of, next_case, number_at, number_text, read_input};
 use net::Net;
 use sheet::{Answer, Reading, Sheet};
-use soundness::Excited;
 
 // The buffer that the text is written to.
 #[derive(Clone, Copy)]
@@ -57,11 +56,11 @@ fn print_reading(rt: &HostRuntime, reading: Reading) {
 // The excitation of one vertex: 0 and the value, or the number and 0.
 fn print_excitation(rt: &HostRuntime, net: Net, input: u32, key: u32, vertex: u32) {
     match vertex_excitation::excitation(net, input, key, vertex) {
-        Excited::Value(v) => {
+        Ok(v) => {
             print_column(rt, 0);
             print_column(rt, v as u64);
         }
-        Excited::Refused(n) => {
+        Err(n) => {
             print_column(rt, n as u64);
             print_column(rt, 0);
         }

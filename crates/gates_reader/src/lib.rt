@@ -8,8 +8,8 @@ ghost use Rattle.std.specs.Prelude.{◌≡◌, true};
 ghost use Rattle.gates.specs.GateRows.{gate_count, letter_count, first_line_ok, read_gates};
 ghost use Rattle.gates.specs.Building.{gate_rest};
 
-use gates::{GateRead, GateSheet};
-use sheet::{Answer, LineRead, Reading};
+use gates::GateSheet;
+use sheet::{Answer, Reading};
 
 // The lines of the gates; reading stops at the first that is refused.
 fn read_lines(sheet: &[u8], gates: usize, letters: u8) -> Reading
@@ -21,11 +21,11 @@ fn read_lines(sheet: &[u8], gates: usize, letters: u8) -> Reading
     let mut g: usize = 0;
     while g < gates {
         let end = at + GateSheet::LINE_WIDTH;
-        let LineRead::Five(line) = line_values::read_line(&sheet[at..end], GateSheet::COLUMNS)
+        let Some(line) = line_values::read_line(&sheet[at..end], GateSheet::COLUMNS)
         else {
             return sheet_readings::refusal(Answer::BAD_LINE, (g + 2) as u16);
         };
-        let GateRead::Gate(gate) = lines::decode_gate(gates, letters, g, line) else {
+        let Some(gate) = lines::decode_gate(gates, letters, g, line) else {
             return sheet_readings::refusal(Answer::BAD_GATE_LINE, (g + 2) as u16);
         };
         let output = GateSheet::FIRST_OUTPUT as usize + g;
@@ -45,7 +45,7 @@ pub fn read(sheet: &[u8]) -> Reading
         return sheet_readings::refusal(Answer::BAD_LENGTH, 0);
     }
     let first = GateSheet::LINE_WIDTH;
-    let LineRead::Five(header) = line_values::read_line(&sheet[..first], GateSheet::COLUMNS) else {
+    let Some(header) = line_values::read_line(&sheet[..first], GateSheet::COLUMNS) else {
         return sheet_readings::refusal(Answer::BAD_LINE, 1);
     };
     if !lines::first_line_ok(header, size) {

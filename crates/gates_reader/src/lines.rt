@@ -7,7 +7,7 @@ ghost use Rattle.gates.specs.Gates.{high, first_output};
 ghost use Rattle.gates.specs.GateRows.{gate_symbol, gate_header_ok, line_gate, gate_line_ok};
 ghost use Rattle.gates.specs.Building.{decode_gate};
 
-use gates::{Gate, GateRead, GateSheet};
+use gates::{Gate, GateSheet};
 use net::{Net, Symbol};
 use sheet::Line;
 
@@ -107,11 +107,11 @@ fn gate_of(v: Line) -> Gate
 }
 
 // What the line of gate g, counted from 0, is decoded to.
-pub(crate) fn decode_gate(gates: usize, letters: u8, g: usize, v: Line) -> GateRead
+pub(crate) fn decode_gate(gates: usize, letters: u8, g: usize, v: Line) -> Option<Gate>
     ensures { result ≡ decode_gate gates letters g v }
 {
     if !gate_line_ok(gates, letters, g, v) {
-        return GateRead::Refused;
+        return None;
     }
-    GateRead::Gate(gate_of(v))
+    Some(gate_of(v))
 }

@@ -12,7 +12,6 @@ ghost use Rattle.sheet.specs.Graph.{over_signals, signal_place};
 ghost use Rattle.sheet.specs.Search.{found_of};
 
 use net::Net;
-use sheet::Found;
 
 // The number of signals of y's component.
 fn signal_count<'a>(
@@ -52,7 +51,7 @@ fn signal_place<'a>(
     net: Net,
     storage: &'a [u8; Net::VERTEX_PLACES],
     labels: &'a [u8; Net::VERTEX_PLACES],
-) -> Found
+) -> Option<u16>
     requires { Prepared net storage.now labels.now }
     ensures { result ≡ found_of (signal_place net) }
 {
@@ -60,15 +59,15 @@ fn signal_place<'a>(
     let mut y: u8 = 0;
     while y <= last {
         if over_signals(net, storage, labels, y) {
-            return Found::At(y as u16);
+            return Some(y as u16);
         }
         y += 1;
     }
-    Found::Nothing
+    None
 }
 
 // Row 23 from the record.
-pub(crate) fn signal_row(net: Net) -> Found
+pub(crate) fn signal_row(net: Net) -> Option<u16>
     requires { Checked net }
     ensures { result ≡ found_of (signal_place net) }
 {

@@ -8,7 +8,6 @@ ghost use Rattle.sheet.specs.Graph.{key_place};
 ghost use Rattle.sheet.specs.Search.{found_of};
 
 use net::Net;
-use sheet::Found;
 
 // A flag as a number to add up; a byte's bound keeps the sum in range.
 fn wide(x: u8) -> usize
@@ -18,7 +17,7 @@ fn wide(x: u8) -> usize
 }
 
 // The vertex of the first key node above the limit.
-fn key_place(net: Net, keys: &[u8; Net::VERTEX_PLACES]) -> Found
+fn key_place(net: Net, keys: &[u8; Net::VERTEX_PLACES]) -> Option<u16>
     requires { (net.vertex_count ≤ most_vertices) × (keys.now ≡ key_flags net) }
     ensures { result ≡ found_of (key_place net) }
 {
@@ -28,15 +27,15 @@ fn key_place(net: Net, keys: &[u8; Net::VERTEX_PLACES]) -> Found
     while v <= last {
         found += wide(keys[v]);
         if Net::MOST_KEY_NODES < found {
-            return Found::At(v as u16);
+            return Some(v as u16);
         }
         v += 1;
     }
-    Found::Nothing
+    None
 }
 
 // Row 22 from the record.
-pub(crate) fn key_row(net: Net) -> Found
+pub(crate) fn key_row(net: Net) -> Option<u16>
     requires { Checked net }
     ensures { result ≡ found_of (key_place net) }
 {

@@ -13,7 +13,7 @@ ghost use Rattle.sheet.specs.Checked.{Checked};
 ghost use Rattle.sheet.specs.Graph.{graph_rows};
 
 use net::Net;
-use sheet::{Answer, Found};
+use sheet::Answer;
 
 // The first of the rows over the graph.
 pub fn graph_answer(net: Net) -> Answer
@@ -21,21 +21,21 @@ pub fn graph_answer(net: Net) -> Answer
     ensures { result ≡ answered (first_row (graph_rows net)) }
 {
     let partner = partners::partner_place(net);
-    if let Found::At(place) = partner {
+    if let Some(place) = partner {
         return Answer {
             number: Answer::NO_PARTNER,
             place,
         };
     }
     let key = key_nodes::key_row(net);
-    if let Found::At(place) = key {
+    if let Some(place) = key {
         return Answer {
             number: Answer::MANY_KEY_NODES,
             place,
         };
     }
     let signal = components::signal_row(net);
-    if let Found::At(place) = signal {
+    if let Some(place) = signal {
         return Answer {
             number: Answer::MANY_SIGNALS,
             place,

@@ -9,7 +9,6 @@ ghost use Rattle.sheet.specs.Search.{found_of};
 
 use crate::edge_numbers::{FORMS, edge_numbers, times_among};
 use net::Net;
-use sheet::Found;
 
 // Do the edges of edge i's number, up to its line, exceed those of its partners' number on the whole sheet?
 fn exceeds_partners(numbers: &[u32; Net::MOST_EDGES], count: usize, i: usize, partner: u32) -> bool
@@ -37,7 +36,7 @@ fn lacks_partner(numbers: &[u32; Net::MOST_EDGES], count: usize, i: usize) -> bo
 }
 
 // The line of the first edge that exceeds its partners.
-pub(crate) fn partner_place(net: Net) -> Found
+pub(crate) fn partner_place(net: Net) -> Option<u16>
     requires { Checked net }
     ensures { result ≡ found_of (partner_place net) }
 {
@@ -47,9 +46,9 @@ pub(crate) fn partner_place(net: Net) -> Found
     let mut i: usize = 0;
     while i < count {
         if lacks_partner(&numbers, count, i) {
-            return Found::At(above + i as u16);
+            return Some(above + i as u16);
         }
         i += 1;
     }
-    Found::Nothing
+    None
 }

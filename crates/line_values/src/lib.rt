@@ -7,10 +7,10 @@ ghost use Rattle.sheet.specs.Field.{field_answer};
 ghost use Rattle.sheet.specs.Line.{field_at, read_line, write_line, line_answer};
 ghost use Rattle.sheet.specs.Job.{job_in, job_of};
 
-use sheet::{Field, JobLine, Line, LineRead, Sheet};
+use sheet::{Job, Line, Sheet};
 
 // Field i of a line, counted from 0.
-fn field_of(part: &[u8], i: usize, columns: usize) -> Field
+fn field_of(part: &[u8], i: usize, columns: usize) -> Option<u32>
     requires { ReadColumns columns × (length part.now ≡ line_bytes columns) × (i < field_count) }
     ensures { result ≡ field_answer (field_at columns part.now i) }
 {
@@ -20,33 +20,33 @@ fn field_of(part: &[u8], i: usize, columns: usize) -> Field
 }
 
 // The numbers of a line, which is five fields of so many columns and the byte that ends it.
-pub fn read_line(part: &[u8], columns: usize) -> LineRead
+pub fn read_line(part: &[u8], columns: usize) -> Option<Line>
     requires { ReadColumns columns }
     ensures { result ≡ line_answer (read_line columns part.now) }
 {
     let width = sheet::line_bytes(columns);
     if part.len() != width {
-        return LineRead::Refused;
+        return None;
     }
     if part[width - 1] != Sheet::LINE_END {
-        return LineRead::Refused;
+        return None;
     }
-    let Field::Number(kind) = field_of(part, 0, columns) else {
-        return LineRead::Refused;
+    let Some(kind) = field_of(part, 0, columns) else {
+        return None;
     };
-    let Field::Number(second) = field_of(part, 1, columns) else {
-        return LineRead::Refused;
+    let Some(second) = field_of(part, 1, columns) else {
+        return None;
     };
-    let Field::Number(third) = field_of(part, 2, columns) else {
-        return LineRead::Refused;
+    let Some(third) = field_of(part, 2, columns) else {
+        return None;
     };
-    let Field::Number(fourth) = field_of(part, 3, columns) else {
-        return LineRead::Refused;
+    let Some(fourth) = field_of(part, 3, columns) else {
+        return None;
     };
-    let Field::Number(fifth) = field_of(part, 4, columns) else {
-        return LineRead::Refused;
+    let Some(fifth) = field_of(part, 4, columns) else {
+        return None;
     };
-    LineRead::Five(Line {
+    Some(Line {
         kind,
         second,
         third,
@@ -75,24 +75,28 @@ pub fn write_line(out: &mut [u8], columns: usize, line: Line)
 }
 
 // A job line with so many columns a field is 4, the old input state, the new one, the start and 0.
-pub fn job_in(bytes: &[u8], columns: usize) -> JobLine
+pub fn job_in(bytes: &[u8], columns: usize) -> Option<Job>
     requires { ReadColumns columns }
     ensures { result ≡ job_in columns bytes.now }
 {
-    let LineRead::Five(v) = read_line(bytes, columns) else {
-        return JobLine::Refused;
+    let Some(v) = read_line(bytes, columns) else {
+        return None;
     };
     if v.kind != Line::JOB {
-        return JobLine::Refused;
+        return None;
     }
     if v.fifth != 0 {
-        return JobLine::Refused;
+        return None;
     }
-    JobLine::Asked(v.second, v.third, v.fourth)
+    Some(Job {
+        old: v.second,
+        new: v.third,
+        start: v.fourth,
+    })
 }
 
 // A job line of the width in force.
-pub fn job(bytes: &[u8]) -> JobLine
+pub fn job(bytes: &[u8]) -> Option<Job>
     ensures { result ≡ job_of bytes.now }
 {
     job_in(bytes, Sheet::FIELD_WIDTH)

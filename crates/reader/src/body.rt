@@ -5,7 +5,7 @@ ghost use Rattle.sheet.specs.Reading.{vertex_of, edge_of, vertex_line_ok, edge_l
 ghost use Rattle.sheet.specs.Entries.{decode_line, refusal_of, with_entry, HasPlace};
 
 use net::{Edge, Net, Vertex};
-use sheet::{Answer, Decoded, Entry, Line};
+use sheet::{Answer, Entry, Line};
 
 // A record's roles, forms and ends are bytes, its labels and symbols are of two bytes; a larger number of a line is none of them.
 const LARGEST: u32 = u8::MAX as u32;
@@ -82,31 +82,31 @@ fn edge_line_ok(net: Net, v: Line) -> bool
     rules::edge_ok(net, edge_of(v))
 }
 
-// What line j is: a vertex where j is below the vertex count, else an edge; or the number of its refusal.
-pub(crate) fn decode_line(net: Net, j: usize, v: Line) -> Decoded
+// What line j is: a vertex where j is below the vertex count, else an edge; nothing where its values are refused.
+pub(crate) fn decode_line(net: Net, j: usize, v: Line) -> Option<Entry>
     ensures { result ≡ decode_line net j v }
 {
     let vertices = net.vertex_count as usize;
     if j < vertices {
         if !vertex_line_ok(net, j, v) {
-            return Decoded::Refused(Answer::BAD_VERTEX);
+            return None;
         }
-        return Decoded::Allowed(Entry::Vertex(vertex_of(v)));
+        return Some(Entry::Vertex(vertex_of(v)));
     }
     if !edge_line_ok(net, v) {
-        return Decoded::Refused(Answer::BAD_EDGE);
+        return None;
     }
-    Decoded::Allowed(Entry::Edge(edge_of(v)))
+    Some(Entry::Edge(edge_of(v)))
 }
 
-// The number that a line is refused with, 0 where it is allowed.
-pub(crate) fn refusal_of(decoded: Decoded) -> u8
-    ensures { result ≡ refusal_of decoded }
+// The number that line j is refused with: a vertex's or an edge's.
+pub(crate) fn refusal_of(net: Net, j: usize) -> u8
+    ensures { result ≡ refusal_of net j }
 {
-    match decoded {
-        Decoded::Allowed(_) => 0,
-        Decoded::Refused(number) => number,
+    if j < net.vertex_count as usize {
+        return Answer::BAD_VERTEX;
     }
+    Answer::BAD_EDGE
 }
 
 // The record with what line j adds.

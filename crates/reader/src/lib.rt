@@ -11,7 +11,7 @@ ghost use Rattle.sheet.specs.Reading.{read_lines, read_in, read_sheet};
 ghost use Rattle.sheet.specs.Rules.{header_ok};
 
 use net::Net;
-use sheet::{Answer, Decoded, Line, LineRead, Reading, Sheet};
+use sheet::{Answer, Line, Reading, Sheet};
 
 // A header is 1, vertices, edges, letters and the edition.
 fn header_ok(h: Line) -> bool
@@ -37,12 +37,11 @@ fn read_lines(sheet: &[u8], columns: usize, start: Net, count: usize) -> Reading
     let mut j: usize = 0;
     while j < count {
         let end = at + width;
-        let LineRead::Five(line) = line_values::read_line(&sheet[at..end], columns) else {
+        let Some(line) = line_values::read_line(&sheet[at..end], columns) else {
             return sheet_readings::refusal(Answer::BAD_LINE, (j + 2) as u16);
         };
-        let decoded = body::decode_line(net, j, line);
-        let Decoded::Allowed(entry) = decoded else {
-            return sheet_readings::refusal(body::refusal_of(decoded), (j + 2) as u16);
+        let Some(entry) = body::decode_line(net, j, line) else {
+            return sheet_readings::refusal(body::refusal_of(net, j), (j + 2) as u16);
         };
         net = body::with_entry(net, j, entry);
         at = end;
@@ -61,7 +60,7 @@ pub fn read_in(sheet: &[u8], columns: usize) -> Reading
     if !sheet_readings::whole_lines(size, columns, Sheet::MOST_LINES) {
         return sheet_readings::refusal(Answer::BAD_LENGTH, 0);
     }
-    let LineRead::Five(header) = line_values::read_line(&sheet[0..width], columns) else {
+    let Some(header) = line_values::read_line(&sheet[0..width], columns) else {
         return sheet_readings::refusal(Answer::BAD_LINE, 1);
     };
     if !header_ok(header) {

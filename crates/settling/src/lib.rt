@@ -7,7 +7,7 @@ ghost use Rattle.settlements.specs.Batch.{batched, batch_of};
 
 use net::Net;
 use settlements::Settling;
-use sheet::{Answer, Found};
+use sheet::Answer;
 
 // Settling from an old to a new input state and a start: any record, any numbers, any two buffers.
 pub fn settle<'a>(
@@ -25,8 +25,8 @@ pub fn settle<'a>(
     }
     let mut excitations = [0u8; Net::VERTEX_LANES];
     match c1::lowest_break(net, &mut excitations) {
-        Found::At(place) => job_tests::refused(Answer::BREAKS_C1, place),
-        Found::Nothing => sound_settling::settle(net, &excitations, old, new, start, r, t),
+        Some(place) => job_tests::refused(Answer::BREAKS_C1, place),
+        None => sound_settling::settle(net, &excitations, old, new, start, r, t),
     }
 }
 
@@ -47,10 +47,10 @@ pub fn batch<'a, 'b>(
     }
     let mut excitations = [0u8; Net::VERTEX_LANES];
     match c1::lowest_break(net, &mut excitations) {
-        Found::At(place) => Answer {
+        Some(place) => Answer {
             number: Answer::BREAKS_C1,
             place: place,
         },
-        Found::Nothing => sound_settling::batch(net, &excitations, jobs, results, answers),
+        None => sound_settling::batch(net, &excitations, jobs, results, answers),
     }
 }

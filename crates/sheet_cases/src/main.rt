@@ -7,7 +7,7 @@ ghost use Rattle.std.specs.Prelude.{◌<◌, ◌≡◌, length};
 ghost use Rattle.sheet.specs.Limits.{ReadColumns};
 
 use cases::{Case, Input, data_of, next_case, number_at, number_text, read_input};
-use sheet::{JobLine, Reading, Sheet};
+use sheet::{Job, Reading, Sheet};
 
 // The buffer that a field is written to, and what it holds before.
 const FIELD_BUFFER: usize = 12;
@@ -73,13 +73,13 @@ fn print_line(rt: &HostRuntime, sheet: &[u8], n: usize) {
 // A job line: 0 and its three numbers, or 46 and zeros.
 fn print_job(rt: &HostRuntime, bytes: &[u8]) {
     match line_values::job(bytes) {
-        JobLine::Asked(old, new, start) => {
+        Some(Job { old, new, start }) => {
             print_column(rt, 0);
             print_column(rt, old as u64);
             print_column(rt, new as u64);
             print_column(rt, start as u64);
         }
-        JobLine::Refused => {
+        None => {
             print_column(rt, 46);
             print_column(rt, 0);
             print_column(rt, 0);
@@ -93,12 +93,12 @@ fn print_job_in(rt: &HostRuntime, bytes: &[u8], columns: usize)
     requires { ReadColumns columns }
 {
     match line_values::job_in(bytes, columns) {
-        JobLine::Asked(old, new, start) => {
+        Some(Job { old, new, start }) => {
             print_field(rt, old as u64, columns);
             print_field(rt, new as u64, columns);
             print_field(rt, start as u64, columns);
         }
-        JobLine::Refused => print_column(rt, 46),
+        None => print_column(rt, 46),
     }
 }
 

@@ -7,7 +7,6 @@ ghost use Rattle.std.specs.Prelude.{◌<◌, ◌≡◌, length};
 use cases::{Case, Input, data_of, next_case, number_at, number_text, read_input};
 use net::Net;
 use sheet::Answer;
-use soundness::Excited;
 
 // The buffer for the input. The clause tells its length, which lending a part needs.
 fn input_buffer() -> [u8; Input::MOST_BYTES]
@@ -31,11 +30,11 @@ fn print_place(rt: &HostRuntime, answer: Answer) {
 // The excitation of one vertex: 0 and the value, or the number and 0.
 fn print_excitation(rt: &HostRuntime, net: Net, input: u32, key: u32, vertex: u32) {
     match vertex_excitation::excitation(net, input, key, vertex) {
-        Excited::Value(v) => {
+        Ok(v) => {
             print_column(rt, 0);
             print_column(rt, v as u64);
         }
-        Excited::Refused(n) => {
+        Err(n) => {
             print_column(rt, n as u64);
             print_column(rt, 0);
         }
@@ -45,10 +44,10 @@ fn print_excitation(rt: &HostRuntime, net: Net, input: u32, key: u32, vertex: u3
 // The excitation of one vertex as a character: a hyphen where the vertex is not storage, a question mark for any other refusal.
 fn print_character(rt: &HostRuntime, net: Net, input: u32, key: u32, vertex: u32) {
     match vertex_excitation::excitation(net, input, key, vertex) {
-        Excited::Value(v) => {
+        Ok(v) => {
             let _ = rt.print(v as u64);
         }
-        Excited::Refused(n) => {
+        Err(n) => {
             if n == Answer::NO_STORAGE_VERTEX {
                 let _ = rt.write_all(b"-");
             } else {

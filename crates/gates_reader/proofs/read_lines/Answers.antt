@@ -2,25 +2,24 @@
 use Prim.Native.Nat.{◌-◌}
 use native.Mathlib.Omega.{arith}
 use mathlib.Core.Path.{◌≡◌, sym, ◌∙◌}
-use Rattle.sheet.specs.declared.LineRead.TheVariants.{Five}
+use Rattle.std.specs.Prelude.{Some}
 use Rattle.sheet.specs.Line.{read_line, line_answer}
 use Rattle.sheet.proofs.ReaderSteps.{lent}
 use Rattle.gates.specs.Limits.{gate_columns, gate_line_bytes}
-use Rattle.gates.specs.declared.GateRead.TheVariants.{Gate as Decoded}
 use Rattle.gates.specs.Building.{decode_gate}
 use Rattle.gates.proofs.GateRowLaws.{few_gates}
 use Rattle.gates.proofs.LoopSteps.{loop_starts, next-line, few_lines, vertex_room, edge_room, refuses_12, refuses_52, takes_gate, loop_checked, loop_ends}
 use Rattle.gates_reader.proofs.read_lines.Goals as goal
-use Rattle.gates_reader.proofs.read_lines.Goals.{In-Five, In-Gate}
+use Rattle.gates_reader.proofs.read_lines.Goals.{In-Some, In-Some-decode_gate}
 
 -- the line is five fields, and what it is decoded to where it is allowed
-five : (c : In-Five) →
-    line_answer (read_line gate_columns (lent gate_line_bytes c.args.sheet.now c.loop-g.at)) ≡ Five c.in-Five.line
-five c = sym c.read_line.ensures ∙ c.in-Five.is
+five : (c : In-Some) →
+    line_answer (read_line gate_columns (lent gate_line_bytes c.args.sheet.now c.loop-g.at)) ≡ Some c.in-Some.line
+five c = sym c.read_line.ensures ∙ c.in-Some.is
 
-gate-is : (c : In-Gate) → let a = c.args in
-    decode_gate a.gates a.letters c.loop-g.g c.in-Five.line ≡ Decoded c.in-Gate.gate
-gate-is c = sym c.decode_gate.ensures ∙ c.in-Gate.is
+gate-is : (c : In-Some-decode_gate) → let a = c.args in
+    decode_gate a.gates a.letters c.loop-g.g c.in-Some.line ≡ Some c.in-Some-decode_gate.gate
+gate-is c = sym c.decode_gate.ensures ∙ c.in-Some-decode_gate.is
 
 pub outputs-net-requires : goal.outputs-net-requires
 outputs-net-requires c = let p = c.requires in rw p.1 (few_gates _ p.0)
@@ -53,7 +52,7 @@ overflow_cast-g-in_default-decode_gate c = omega (arith, few_lines _ c.loop-g.in
 pub returns-in_default-decode_gate : goal.returns-in_default-decode_gate
 returns-in_default-decode_gate c =
     c.refusal-in_default-decode_gate.ensures
-    ∙ refuses_52 _ c.loop-g.invariant c.loop-g-test.true _ (five (goal.at.returns-in_default-decode_gate c).In-Five) (sym c.decode_gate.ensures ∙ c.in_default-decode_gate.is)
+    ∙ refuses_52 _ c.loop-g.invariant c.loop-g-test.true _ (five (goal.at.returns-in_default-decode_gate c).In-Some) (sym c.decode_gate.ensures ∙ c.in_default-decode_gate.is)
 
 pub overflow_add-output : goal.overflow_add-output
 overflow_add-output c = omega (arith, few_lines _ c.loop-g.invariant, c.loop-g-test.true)
@@ -67,7 +66,7 @@ add_gate-net-requires c =
 
 pub loop-g-preserved : goal.loop-g-preserved
 loop-g-preserved c =
-    rw c.add_gate-net.ensures (takes_gate _ c.loop-g.invariant c.loop-g-test.true _ (five (goal.at.loop-g-preserved c).In-Five) _ (gate-is (goal.at.loop-g-preserved c).In-Gate))
+    rw c.add_gate-net.ensures (takes_gate _ c.loop-g.invariant c.loop-g-test.true _ (five (goal.at.loop-g-preserved c).In-Some) _ (gate-is (goal.at.loop-g-preserved c).In-Some-decode_gate))
 
 pub concluded-requires : goal.concluded-requires
 concluded-requires c = loop_checked _ c.loop-g.invariant c.loop-g-test.false

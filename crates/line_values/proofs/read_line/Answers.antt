@@ -28,8 +28,8 @@ returns-in_default-field_of-4 c = rw (missing_field _ _ 4 (omega arith) (sym c.f
 pub returns : goal.returns
 returns c =
     rw (all_fields _ _ _ c.line_bytes-width.ensures c.if-part-width.false c.if-part-width-ne-LINE_END.false _ _ _ _ _
-    (sym c.field_of.ensures ∙ c.in-Number.is)
-    (sym c.field_of-2.ensures ∙ c.in-Number-field_of.is)
-    (sym c.field_of-3.ensures ∙ c.in-Number-field_of-2.is)
-    (sym c.field_of-4.ensures ∙ c.in-Number-field_of-3.is)
-    (sym c.field_of-5.ensures ∙ c.in-Number-field_of-4.is))
+    (sym c.field_of.ensures ∙ c.in-Some.is)
+    (sym c.field_of-2.ensures ∙ c.in-Some-field_of.is)
+    (sym c.field_of-3.ensures ∙ c.in-Some-field_of-2.is)
+    (sym c.field_of-4.ensures ∙ c.in-Some-field_of-3.is)
+    (sym c.field_of-5.ensures ∙ c.in-Some-field_of-4.is))

@@ -3,7 +3,7 @@ use native.Mathlib.Omega.{arith}
 use mathlib.Core.Path.{◌≡◌, refl, sym, ◌∙◌}
 use mathlib.Core.Bool.{true}
 use lib.ListN.{length, take}
-use Rattle.sheet.specs.declared.LineRead.TheVariants.{Five}
+use Rattle.std.specs.Prelude.{Some}
 use Rattle.sheet.specs.Limits.{line_bytes, most_lines}
 use Rattle.sheet.specs.Line.{read_line, line_answer}
 use Rattle.sheet.specs.Record.{start_net}
@@ -12,7 +12,7 @@ use Rattle.sheet.specs.Reading.{size_ok}
 use Rattle.sheet.proofs.RuleLaws.{Counts}
 use Rattle.sheet.proofs.HeaderSteps.{first-lent, bad_length, first_line_lem, bad_first_line, bad_header, header_counts, bad_line-count, start_so_far, body_room, body_read}
 use Rattle.reader.proofs.read_in.Goals as goal
-use Rattle.reader.proofs.read_in.Goals.{Else-not-header_ok, Else-not-whole_lines, In-Five}
+use Rattle.reader.proofs.read_in.Goals.{Else-not-header_ok, Else-not-whole_lines, In-Some}
 
 -- the bytes of a line
 width_is : (c : Else-not-whole_lines) → c.line_bytes-width.result ≡ line_bytes c.args.columns
@@ -23,17 +23,17 @@ size-at : (c : Else-not-whole_lines) → size_ok c.args.columns (length c.args.s
 size-at c = sym c.whole_lines.ensures ∙ c.if-not-whole_lines.false
 
 -- the first line is five fields
-five-at : (c : In-Five) → let a = c.args in
-    line_answer (read_line a.columns (take (line_bytes a.columns) a.sheet.now)) ≡ Five c.in-Five.header
-five-at c = first-lent _ _ _ (width_is (goal.at.In-Five c).Else-not-whole_lines) ∙ sym c.read_line.ensures ∙ c.in-Five.is
+five-at : (c : In-Some) → let a = c.args in
+    line_answer (read_line a.columns (take (line_bytes a.columns) a.sheet.now)) ≡ Some c.in-Some.header
+five-at c = first-lent _ _ _ (width_is (goal.at.In-Some c).Else-not-whole_lines) ∙ sym c.read_line.ensures ∙ c.in-Some.is
 
 -- the header's values are allowed
-ok_at : (c : Else-not-header_ok) → header_ok c.in-Five.header ≡ true
+ok_at : (c : Else-not-header_ok) → header_ok c.in-Some.header ≡ true
 ok_at c = sym c.header_ok.ensures ∙ c.if-not-header_ok.false
 
-counts-at : (c : Else-not-header_ok) → let h = c.in-Five.header in Counts h.second h.third h.fourth
+counts-at : (c : Else-not-header_ok) → let h = c.in-Some.header in Counts h.second h.third h.fourth
 counts-at c =
-    header_counts c.args.columns c.args.sheet.now (size-at (goal.at.Else-not-header_ok c).Else-not-whole_lines) _ (five-at (goal.at.Else-not-header_ok c).In-Five) (ok_at c)
+    header_counts c.args.columns c.args.sheet.now (size-at (goal.at.Else-not-header_ok c).Else-not-whole_lines) _ (five-at (goal.at.Else-not-header_ok c).In-Some) (ok_at c)
 
 pub returns-then-not-whole_lines : goal.returns-then-not-whole_lines
 returns-then-not-whole_lines c = c.refusal.ensures ∙ bad_length _ _ (sym c.whole_lines.ensures ∙ c.if-not-whole_lines.true)
@@ -47,11 +47,11 @@ returns-in_default c =
 
 pub returns-then-not-header_ok : goal.returns-then-not-header_ok
 returns-then-not-header_ok c =
-    c.refusal-then-not-header_ok.ensures ∙ bad_header _ _ (size-at (goal.at.returns-then-not-header_ok c).Else-not-whole_lines) _ (five-at (goal.at.returns-then-not-header_ok c).In-Five) (sym c.header_ok.ensures ∙ c.if-not-header_ok.true)
+    c.refusal-then-not-header_ok.ensures ∙ bad_header _ _ (size-at (goal.at.returns-then-not-header_ok c).Else-not-whole_lines) _ (five-at (goal.at.returns-then-not-header_ok c).In-Some) (sym c.header_ok.ensures ∙ c.if-not-header_ok.true)
 
 pub returns-then-size-width : goal.returns-then-size-width
 returns-then-size-width c =
-    c.refusal-then-size-width.ensures ∙ bad_line-count _ _ (size-at (goal.at.returns-then-size-width c).Else-not-whole_lines) _ (five-at (goal.at.returns-then-size-width c).In-Five) (ok_at (goal.at.returns-then-size-width c).Else-not-header_ok) _ (width_is (goal.at.returns-then-size-width c).Else-not-whole_lines) c.if-size-width.true
+    c.refusal-then-size-width.ensures ∙ bad_line-count _ _ (size-at (goal.at.returns-then-size-width c).Else-not-whole_lines) _ (five-at (goal.at.returns-then-size-width c).In-Some) (ok_at (goal.at.returns-then-size-width c).Else-not-header_ok) _ (width_is (goal.at.returns-then-size-width c).Else-not-whole_lines) c.if-size-width.true
 
 pub overflow_cast-header : goal.overflow_cast-header
 overflow_cast-header c = let n = counts-at (goal.at.overflow_cast-header c).Else-not-header_ok in omega arith
@@ -67,7 +67,7 @@ unfolding start_net
 read_lines-requires c =
     let w = c.args.columns in
     let b = c.args.sheet.now in
-    let five = five-at (goal.at.read_lines-requires c).In-Five in
+    let five = five-at (goal.at.read_lines-requires c).In-Some in
     rw c.start_net-start.ensures (
       start_so_far w b (size-at (goal.at.read_lines-requires c).Else-not-whole_lines) _ five (ok_at (goal.at.read_lines-requires c).Else-not-header_ok),
       refl,
@@ -78,4 +78,4 @@ read_lines-requires c =
 pub returns : goal.returns
 returns c =
     c.read_lines.ensures
-    ∙ rw c.start_net-start.ensures (body_read _ _ (size-at (goal.at.returns c).Else-not-whole_lines) _ (five-at (goal.at.returns c).In-Five) (ok_at (goal.at.returns c).Else-not-header_ok) _ (width_is (goal.at.returns c).Else-not-whole_lines) c.if-size-width.false)
+    ∙ rw c.start_net-start.ensures (body_read _ _ (size-at (goal.at.returns c).Else-not-whole_lines) _ (five-at (goal.at.returns c).In-Some) (ok_at (goal.at.returns c).Else-not-header_ok) _ (width_is (goal.at.returns c).Else-not-whole_lines) c.if-size-width.false)

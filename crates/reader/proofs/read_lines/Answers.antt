@@ -3,8 +3,7 @@ use Prim.Native.Nat.{ℕ, ◌+◌, ◌-◌, ◌≤◌}
 use native.Mathlib.Omega.{arith}
 use mathlib.Core.Path.{◌≡◌, sym, ap, ◌∙◌}
 use Rattle.sheet.specs.Limits.{line_bytes}
-use Rattle.sheet.specs.declared.LineRead.TheVariants.{Five}
-use Rattle.sheet.specs.declared.Decoded.TheVariants.{Allowed, Refused}
+use Rattle.std.specs.Prelude.{Some}
 use Rattle.sheet.specs.Line.{read_line, line_answer}
 use Rattle.sheet.specs.Entries.{decode_line, refusal_of}
 use Rattle.net.specs.Limits.{most_vertices, most_edges}
@@ -15,7 +14,7 @@ use Rattle.sheet.proofs.LoopLaws.{loop_next, loop_stop, loop_end}
 use Rattle.sheet.proofs.BodySteps.{entry_place}
 use Rattle.sheet.proofs.ReaderSteps.{lent, not_fields, line_stops, line-goes_on, line_steps}
 use Rattle.reader.proofs.read_lines.Goals as goal
-use Rattle.reader.proofs.read_lines.Goals.{After-decode_line-decoded, In-Allowed, In-loop-j}
+use Rattle.reader.proofs.read_lines.Goals.{After-decode_line, In-Some-decode_line, In-loop-j}
 
 -- a sheet has few lines
 few : (c : In-loop-j) → c.args.count ≤ most_vertices + most_edges
@@ -28,13 +27,13 @@ width_is : (c : In-loop-j) → c.line_bytes-width.result ≡ line_bytes c.args.c
 width_is c = c.line_bytes-width.ensures
 
 -- the line's five numbers, and what it is decoded to where it is allowed
-five : (c : After-decode_line-decoded) →
+five : (c : After-decode_line) →
     line_answer (read_line c.args.columns (lent c.line_bytes-width.result c.args.sheet.now c.loop-j.at))
-    ≡ Five c.in-Five.line
-five c = sym c.read_line.ensures ∙ c.in-Five.is
+    ≡ Some c.in-Some.line
+five c = sym c.read_line.ensures ∙ c.in-Some.is
 
-entry : (c : In-Allowed) → decode_line c.loop-j.net c.loop-j.j c.in-Five.line ≡ Allowed c.in-Allowed.entry
-entry c = sym c.decode_line-decoded.ensures ∙ c.in-Allowed.is
+entry : (c : In-Some-decode_line) → decode_line c.loop-j.net c.loop-j.j c.in-Some.line ≡ Some c.in-Some-decode_line.entry
+entry c = sym c.decode_line.ensures ∙ c.in-Some-decode_line.is
 
 pub overflow_cast-j : goal.overflow_cast-j
 overflow_cast-j c = omega (arith, few (goal.at.overflow_cast-j c).In-loop-j)
@@ -45,25 +44,23 @@ returns-in_default c =
     ∙ loop_stop _ _ c.loop-j.at c.args.count c.loop-j.j c.loop-j.net _ c.loop-j.invariant.4 c.loop-j-test.true 12
     (not_fields _ _ c.loop-j.at c.loop-j.j c.loop-j.net _ (width_is (goal.at.returns-in_default c).In-loop-j) (sym c.read_line.ensures ∙ c.in_default.is))
 
-pub overflow_cast-j-in_default-decoded : goal.overflow_cast-j-in_default-decoded
-overflow_cast-j-in_default-decoded c = omega (arith, few (goal.at.overflow_cast-j-in_default-decoded c).In-loop-j, c.loop-j-test.true)
+pub overflow_cast-j-in_default-decode_line : goal.overflow_cast-j-in_default-decode_line
+overflow_cast-j-in_default-decode_line c = omega (arith, few (goal.at.overflow_cast-j-in_default-decode_line c).In-loop-j, c.loop-j-test.true)
 
-pub returns-in_default-decoded : goal.returns-in_default-decoded
-returns-in_default-decoded c =
-    let told = c.in_default-decoded.is in
-    let number = c.refusal_of.ensures ∙ ap refusal_of told in
-    c.refusal-in_default-decoded.ensures
+pub returns-in_default-decode_line : goal.returns-in_default-decode_line
+returns-in_default-decode_line c =
+    rw c.refusal_of.ensures at c.refusal-in_default-decode_line.ensures
     ∙ loop_stop _ _ c.loop-j.at c.args.count c.loop-j.j c.loop-j.net _ c.loop-j.invariant.4 c.loop-j-test.true _
-    (line_stops _ _ c.loop-j.at c.loop-j.j c.loop-j.net _ (width_is (goal.at.returns-in_default-decoded c).In-loop-j) _ (five (goal.at.returns-in_default-decoded c).After-decode_line-decoded) c.refusal_of.result (sym c.decode_line-decoded.ensures ∙ told ∙ ap Refused (sym number)))
+    (line_stops _ _ c.loop-j.at c.loop-j.j c.loop-j.net _ (width_is (goal.at.returns-in_default-decode_line c).In-loop-j) _ (five (goal.at.returns-in_default-decode_line c).After-decode_line) (sym c.decode_line.ensures ∙ c.in_default-decode_line.is))
 
 pub with_entry-net-requires : goal.with_entry-net-requires
 with_entry-net-requires c =
     let n = counts_facts _ _ _ c.loop-j.invariant.3.counts in
-    entry_place c.loop-j.net c.loop-j.j _ (omega (arith, c.loop-j-test.true)) n.vertices n.edges _ (entry (goal.at.with_entry-net-requires c).In-Allowed)
+    entry_place c.loop-j.net c.loop-j.j _ (omega (arith, c.loop-j-test.true)) n.vertices n.edges _ (entry (goal.at.with_entry-net-requires c).In-Some-decode_line)
 
 pub loop-j-preserved : goal.loop-j-preserved
 loop-j-preserved c =
-    let on = line-goes_on _ _ c.loop-j.at c.loop-j.j c.loop-j.net _ (width_is (goal.at.loop-j-preserved c).In-loop-j) _ (five (goal.at.loop-j-preserved c).After-decode_line-decoded) _ (entry (goal.at.loop-j-preserved c).In-Allowed) in
+    let on = line-goes_on _ _ c.loop-j.at c.loop-j.j c.loop-j.net _ (width_is (goal.at.loop-j-preserved c).In-loop-j) _ (five (goal.at.loop-j-preserved c).After-decode_line) _ (entry (goal.at.loop-j-preserved c).In-Some-decode_line) in
     let more = c.loop-j-test.true in
     let next-line = ap (λ (width : ℕ). c.loop-j.at + width) (width_is (goal.at.loop-j-preserved c).In-loop-j) in
     rw c.with_entry-net.ensures (
@@ -72,7 +69,7 @@ loop-j-preserved c =
       c.loop-j.invariant.2 ∙ sym (counts_kept c.loop-j.net c.loop-j.j c.loop-j.invariant.3 _ _ on),
       line-added c.loop-j.net c.loop-j.j c.loop-j.invariant.3 _ _ (omega (arith, c.loop-j.invariant.2)) on,
       loop_next _ _ c.loop-j.at c.args.count c.loop-j.j c.loop-j.net _ c.loop-j.invariant.4 more _
-          (line_steps _ _ c.loop-j.at c.loop-j.j c.loop-j.net _ (width_is (goal.at.loop-j-preserved c).In-loop-j) _ (five (goal.at.loop-j-preserved c).After-decode_line-decoded) _ (entry (goal.at.loop-j-preserved c).In-Allowed)) _ next-line,
+          (line_steps _ _ c.loop-j.at c.loop-j.j c.loop-j.net _ (width_is (goal.at.loop-j-preserved c).In-loop-j) _ (five (goal.at.loop-j-preserved c).After-decode_line) _ (entry (goal.at.loop-j-preserved c).In-Some-decode_line)) _ next-line,
     )
 
 pub concluded-requires : goal.concluded-requires

@@ -18,6 +18,6 @@ returns-then-not-is_record c = bad_record _ _ _ _ (sym c.is_record.ensures ∙ c
 pub lowest_break-requires : goal.lowest_break-requires
 lowest_break-requires c = let h = valid_fit _ (valid-record (goal.at.lowest_break-requires c).Else-not-is_record) in search rules
 
-pub returns-in-At : goal.returns-in-At
-returns-in-At c =
-    breaks_c1 _ _ _ _ (valid-record (goal.at.returns-in-At c).Else-not-is_record) (sym c.lowest_break.ensures.0 ∙ c.in-At.is)
+pub returns-in-Some : goal.returns-in-Some
+returns-in-Some c =
+    breaks_c1 _ _ _ _ (valid-record (goal.at.returns-in-Some c).Else-not-is_record) (sym c.lowest_break.ensures.0 ∙ c.in-Some.is)

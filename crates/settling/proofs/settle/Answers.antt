@@ -18,7 +18,7 @@ returns-then-not-is_record c = rw c.refused.ensures (bad_record _ _ _ _ _ _ (sym
 pub lowest_break-requires : goal.lowest_break-requires
 lowest_break-requires c = let h = valid_fit _ (valid-record (goal.at.lowest_break-requires c).Else-not-is_record) in search rules
 
-pub returns-in-At : goal.returns-in-At
-returns-in-At c =
-    rw c.refused-in-At.ensures
-    (breaks_c1 _ _ _ _ _ _ (valid-record (goal.at.returns-in-At c).Else-not-is_record) (sym c.lowest_break.ensures.0 ∙ c.in-At.is))
+pub returns-in-Some : goal.returns-in-Some
+returns-in-Some c =
+    rw c.refused-in-Some.ensures
+    (breaks_c1 _ _ _ _ _ _ (valid-record (goal.at.returns-in-Some c).Else-not-is_record) (sym c.lowest_break.ensures.0 ∙ c.in-Some.is))
