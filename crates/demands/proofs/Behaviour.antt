@@ -11,7 +11,8 @@ use Rattle.ternary.specs.Bits.{InputState, KeyState}
 use Rattle.ternary.specs.Passes.{Settled}
 use Rattle.net.specs.declared.Net.{Net}
 use Rattle.sheet.specs.declared.Answer.{Answer}
-use Rattle.std.specs.Prelude.{Option, Some, None}
+use Rattle.std.specs.Prelude.{Some, None}
+use Rattle.std.specs.Prelude.{Option as Answered}
 use Rattle.sheet.specs.declared.Job.{Job}
 use Rattle.sheet.specs.Rows.{answer, Row, row, when, by_rows}
 use Rattle.sheet.specs.Job.{job_of, job_number}
@@ -35,7 +36,7 @@ abbrev passed : ℕ → Settled → Bytes → Bytes → Settlement
 passed h p R T = settlement (settling 0 0 p.first_steps p.second_steps) (p.r ++ drop h R) (p.t ++ drop h T)
 
 module _ {M N : Net} (s : SameNet M N) where
-  same_job : (j : Option Job) (own : Bytes) → job_settlement M j own ≡ job_settlement N j own
+  same_job : (j : Answered Job) (own : Bytes) → job_settlement M j own ≡ job_settlement N j own
   unfolding job_settlement job_rows settle_under written
   same_job (Some line) own =
       let by : ℕ → ℕ → Bool → Settled → Settlement =

@@ -28,7 +28,7 @@ use Rattle.sheet.specs.Reading.{read_sheet}
 use Rattle.sheet.specs.Valid.{valid}
 use Rattle.sheet.proofs.ReadLaws.{read_valid}
 use Rattle.sheet.proofs.Known.{valid_known}
-use Rattle.soundness.specs.declared.Excited.TheVariants.{Value}
+use Rattle.std.specs.Prelude.{Ok}
 use Rattle.soundness.specs.Excited.{excited_of}
 use Rattle.soundness.specs.Verdict.{verdict_of}
 use Rattle.soundness.proofs.ExcitedLaws.{excited_accepts}
@@ -48,7 +48,7 @@ module _ (sheet : List ℕ) (N : Net) (reads : read_sheet sheet ≡ accepted N) 
   ok = read_valid field_width sheet N reads
 
   -- the excitation of one vertex, in every clean state
-  pub demand2_excitation : (a q y : ℕ) → Clean N a q → is_storage N y ≡ true → (v : ℕ) × (excited_of N a q y ≡ Value v) × ExcitationMeans N a q y v
+  pub demand2_excitation : (a q y : ℕ) → Clean N a q → is_storage N y ≡ true → (v : ℕ) × (excited_of N a q y ≡ Ok v) × ExcitationMeans N a q y v
   demand2_excitation a q y c s = (
     excitation N a q y,
     excited_accepts N a q y ok c s,
