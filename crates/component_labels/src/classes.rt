@@ -19,8 +19,8 @@ pub(crate) fn merge_classes(labels: &mut [u8; Net::VERTEX_PLACES], u: u8, v: u8)
 {
     let new = labels[u as usize];
     let old = labels[v as usize];
-    for i in 0..Net::VERTEX_PLACES {
-        labels[i] = relabelled(labels[i], new, old);
+    for label in labels.iter_mut() {
+        *label = relabelled(*label, new, old);
     }
 }
 

@@ -8,7 +8,7 @@ ghost use Rattle.std.specs.Prelude.{◌≡◌, ◌≤◌};
 ghost use Rattle.net.specs.Limits.{most_vertices};
 ghost use Rattle.net.specs.Tables.{Readable, storage_flags, component_labels, lowest_member};
 
-use net::Net;
+use net::{Graph, Net};
 
 // The label of each vertex's component: each edge in use that joins storage vertices makes one class of its ends' classes.
 pub fn component_labels(net: Net, storage: &[u8; Net::VERTEX_PLACES]) -> [u8; Net::VERTEX_PLACES]
@@ -17,13 +17,26 @@ pub fn component_labels(net: Net, storage: &[u8; Net::VERTEX_PLACES]) -> [u8; Ne
 {
     let mut labels = classes::own_labels();
     let count = net.edge_count as usize;
-    for i in 0..count {
-        let edge = net.edges[i];
+    for edge in &net.edges[..count] {
         if flags::both(storage[edge.end1 as usize], storage[edge.end2 as usize]) == 1 {
             classes::merge_classes(&mut labels, edge.end1, edge.end2);
         }
     }
     labels
+}
+
+// A net with its storage flags and labels.
+pub fn graph(net: Net) -> Graph
+    requires { Readable net }
+    ensures { result.net ≡ net }
+{
+    let storage = graph::storage_flags(net);
+    let labels = component_labels(net, &storage);
+    Graph {
+        net,
+        storage,
+        labels,
+    }
 }
 
 // The lowest storage vertex that is labelled as y is; y itself where none is below it.

@@ -25,3 +25,4 @@ pub mod SignalLists
 pub mod LocalFights
 pub mod TernaryLaws
 pub mod FourValues
+pub mod InUse

@@ -2,9 +2,12 @@
 //! What a net means stands in specs/, the laws of it in proofs/. The functions over it are in the crates `symbols`, `graph` and `signals`.
 #![tactic(auto)]
 
+mod graph;
+
 ghost use Rattle.std.specs.Prelude.{◌≡◌};
 ghost use Rattle.net.specs.Limits.{limits};
 
+pub use graph::Graph;
 use ternary::Signal;
 
 // A vertex by its numbers on the sheet. label: an input vertex's symbol.

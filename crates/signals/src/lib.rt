@@ -5,9 +5,9 @@
 ghost use Rattle.std.specs.Prelude.{◌≡◌, true, cond, ◌&&◌, ◌≤◌, eqb};
 ghost use Rattle.net.specs.Limits.{most_vertices};
 ghost use Rattle.net.specs.Graph.{is_storage};
-ghost use Rattle.net.specs.Tables.{Prepared, input_labels, mark_symbol, mark_end, signal_flags};
+ghost use Rattle.net.specs.Tables.{input_labels, mark_symbol, mark_end, signal_flags};
 
-use net::{Net, Symbol, Vertex};
+use net::{Graph, Net, Symbol, Vertex};
 
 fn input_label(role: u8, label: u16) -> u16
     ensures { result ≡ cond (eqb role 0) label 0 }
@@ -59,32 +59,26 @@ fn mark_end(flags: &mut [u8; Symbol::BOUND], member: bool, symbol: u16, label: u
 }
 
 // 1 at each signal of y's component, by symbol number.
-pub fn signal_flags<'a>(
-    net: Net,
-    storage: &'a [u8; Net::VERTEX_PLACES],
-    labels: &'a [u8; Net::VERTEX_PLACES],
-    y: u8,
-) -> [u8; Symbol::BOUND]
-    requires { Prepared net storage.now labels.now × (is_storage net y ≡ true) }
-    ensures { result ≡ signal_flags net y }
+pub fn signal_flags(graph: &Graph, y: u8) -> [u8; Symbol::BOUND]
+    requires { is_storage graph.now.net y ≡ true }
+    ensures { result ≡ signal_flags graph.now.net y }
 {
-    let inputs = input_labels(net);
-    let mine = labels[y as usize];
+    let inputs = input_labels(graph.net);
+    let mine = graph.labels[y as usize];
     let mut flags = [0u8; Symbol::BOUND];
-    let count = net.edge_count as usize;
-    for i in 0..count {
-        let edge = net.edges[i];
+    let count = graph.net.edge_count as usize;
+    for edge in &graph.net.edges[..count] {
         let u = edge.end1 as usize;
         let v = edge.end2 as usize;
         mark_end(
             &mut flags,
-            belongs(storage[u], labels[u], mine),
+            belongs(graph.storage[u], graph.labels[u], mine),
             edge.symbol,
             inputs[v],
         );
         mark_end(
             &mut flags,
-            belongs(storage[v], labels[v], mine),
+            belongs(graph.storage[v], graph.labels[v], mine),
             edge.symbol,
             inputs[u],
         );

@@ -10,4 +10,4 @@ pub returns : goal.returns
 unfolding merge
 returns c =
     let t = c.args.labels.now in
-    fill_map (relabel (get_or t c.args.u 0) (get_or t c.args.v 0)) t c.loop-i.invariant.1 (omega arith) c.requires.0
+    fill_map (relabel (get_or t c.args.u 0) (get_or t c.args.v 0)) t c.loop-label.invariant.1 (omega arith) c.requires.0

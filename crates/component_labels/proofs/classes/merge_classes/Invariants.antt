@@ -5,8 +5,8 @@ use Rattle.net.specs.Classes.{relabel}
 use Rattle.net.proofs.Filling.{Filled}
 use Rattle.component_labels.proofs.classes.merge_classes.Given as goal
 
-abbrev pub invariant-loop-i : goal.invariant-loop-i
-invariant-loop-i l = (l.i ≤ suc most_vertices) × Filled (suc most_vertices) (λ j. relabel l.new l.old (get_or l.initial.labels j 0)) (λ j. get_or l.initial.labels j 0) l.labels l.i
+abbrev pub invariant-loop-label : goal.invariant-loop-label
+invariant-loop-label l = (l.label-index ≤ suc most_vertices) × Filled (suc most_vertices) (λ j. relabel l.new l.old (get_or l.initial.labels j 0)) (λ j. get_or l.initial.labels j 0) l.labels l.label-index
 
-abbrev pub decreases-loop-i : goal.decreases-loop-i
-decreases-loop-i l = suc most_vertices - l.i
+abbrev pub decreases-loop-label : goal.decreases-loop-label
+decreases-loop-label l = suc most_vertices - l.label-index
