@@ -7,11 +7,10 @@ ghost use Rattle.net.specs.Limits.{most_vertices};
 ghost use Rattle.net.specs.Symbols.{symbol_bound};
 ghost use Rattle.net.specs.Graph.{is_storage};
 ghost use Rattle.net.specs.SignalTable.{signal_index};
-ghost use Rattle.net.specs.Tables.{Prepared};
 ghost use Rattle.lanes.specs.Grid.{cell, set_row};
 ghost use Rattle.excitations.specs.Conditions.{signal_places};
 
-use net::{Net, Symbol};
+use net::{Graph, Net, Symbol};
 
 // Row y: for each symbol how many flags stand before its own.
 fn place_row<'a>(places: &'a mut [u8; Net::SYMBOL_PLACES], y: usize, flags: &'a [u8; Symbol::BOUND])
@@ -20,9 +19,9 @@ fn place_row<'a>(places: &'a mut [u8; Net::SYMBOL_PLACES], y: usize, flags: &'a 
 {
     let from = y * Symbol::BOUND;
     let mut count: u8 = 0;
-    for s in 0..Symbol::BOUND {
+    for (s, flag) in flags.iter().enumerate() {
         places[from + s] = count;
-        if flags[s] == 1 {
+        if *flag == 1 {
             count += 1;
         }
     }
@@ -35,46 +34,37 @@ fn copy_row(places: &mut [u8; Net::SYMBOL_PLACES], x: usize, y: usize)
 {
     let from = x * Symbol::BOUND;
     let to = y * Symbol::BOUND;
-    for s in 0..Symbol::BOUND {
-        places[to + s] = places[from + s];
-    }
+    places.copy_within(from..from + Symbol::BOUND, to);
 }
 
 // Row y of a storage vertex, where the rows of those below it are stored. A component has one row, which is worked out once.
 fn store_row<'a, 'b>(
     places: &'a mut [u8; Net::SYMBOL_PLACES],
-    net: Net,
-    storage: &'b [u8; Net::VERTEX_PLACES],
-    labels: &'b [u8; Net::VERTEX_PLACES],
+    graph: &'b Graph,
     y: u8,
 )
-    requires { Prepared net storage.now labels.now × (is_storage net y ≡ true) × (y ≤ most_vertices)
+    requires { (is_storage graph.now.net y ≡ true) × (y ≤ most_vertices)
         × (length places.old ≡ suc most_vertices * symbol_bound)
-        × ((x s : ℕ) → is_storage net x ≡ true → x < y → s < symbol_bound → cell symbol_bound places.old x s ≡ signal_index net x s) }
-    ensures { places.new ≡ set_row symbol_bound y (signal_index net y) places.old }
+        × ((x s : ℕ) → is_storage graph.now.net x ≡ true → x < y → s < symbol_bound → cell symbol_bound places.old x s ≡ signal_index graph.now.net x s) }
+    ensures { places.new ≡ set_row symbol_bound y (signal_index graph.now.net y) places.old }
 {
-    let x = component_labels::lowest_member(storage, labels, y);
+    let x = component_labels::lowest_member(&graph.storage, &graph.labels, y);
     if x != y {
         copy_row(places, x as usize, y as usize);
         return;
     }
-    let flags = signals::signal_flags(net, storage, labels, y);
+    let flags = signals::signal_flags(graph, y);
     place_row(places, y as usize, &flags);
 }
 
 // The place of each symbol among the signals of each storage vertex's component.
-pub fn signal_places<'a>(
-    net: Net,
-    storage: &'a [u8; Net::VERTEX_PLACES],
-    labels: &'a [u8; Net::VERTEX_PLACES],
-) -> [u8; Net::SYMBOL_PLACES]
-    requires { Prepared net storage.now labels.now }
-    ensures { result ≡ signal_places net }
+pub fn signal_places(graph: &Graph) -> [u8; Net::SYMBOL_PLACES]
+    ensures { result ≡ signal_places graph.now.net }
 {
     let mut places = [0u8; Net::SYMBOL_PLACES];
     for y in 0..Net::VERTEX_PLACES {
-        if storage[y] == 1 {
-            store_row(&mut places, net, storage, labels, y as u8);
+        if graph.storage[y] == 1 {
+            store_row(&mut places, graph, y as u8);
         }
     }
     places
