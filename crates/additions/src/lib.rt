@@ -4,14 +4,12 @@
 ghost use Rattle.std.specs.Prelude.{◌≡◌, ◌*◌, ◌^◌, ◌/◌, ◌%◌, ◌<◌, length, get_or};
 ghost use Rattle.ternary.specs.TruthTable.{signal_kinds};
 ghost use Rattle.net.specs.Limits.{most_key_nodes, most_signals};
-ghost use Rattle.net.specs.Tables.{Prepared};
 ghost use Rattle.lanes.specs.Grid.{set_column};
-ghost use Rattle.excitations.specs.Fit.{Fit};
-ghost use Rattle.excitations.specs.Conditions.{signal_places};
-ghost use Rattle.states.specs.Weights.{variables, Bounded, key_vertices};
+ghost use Rattle.states.specs.Weights.{variables, Bounded};
 ghost use Rattle.lookups.specs.Additions as spec;
 
 use net::Net;
+use states::Tables;
 use ternary::Signal;
 
 // Column k: what each variable and digit adds by these weights.
@@ -25,28 +23,13 @@ fn addition_column<'a, 'b>(sums: &'a mut [u16], k: usize, weights: &'b [u16; Net
 }
 
 // For each variable and digit, what it adds for each key node.
-pub fn additions<'a>(
-    net: Net,
-    storage: &'a [u8; Net::VERTEX_PLACES],
-    labels: &'a [u8; Net::VERTEX_PLACES],
-    places: &'a [u8; Net::SYMBOL_PLACES],
-    keys: &'a [u8; Net::MOST_KEY_NODES],
-) -> [u16; Net::ADDITIONS]
-    requires { Fit net × Prepared net storage.now labels.now × (places.now ≡ signal_places net) × (keys.now ≡ key_vertices net) }
-    ensures { result ≡ spec.additions net }
+pub fn additions(tables: &Tables) -> [u16; Net::ADDITIONS]
+    ensures { result ≡ spec.additions tables.now.graph.net }
 {
     let mut sums = [0u16; Net::ADDITIONS];
-    let count = graph::key_count(net);
+    let count = graph::key_count(tables.graph.net);
     for k in 0..count {
-        let list = weights::weights_in(
-            net,
-            storage,
-            labels,
-            places,
-            keys,
-            keys[k],
-            Signal::KINDS as u16,
-        );
+        let list = weights::weights_in(tables, tables.keys[k], Signal::KINDS as u16);
         addition_column(&mut sums, k, &list);
     }
     sums

@@ -15,15 +15,15 @@ use Rattle.lookups.proofs.AdditionLaws.{length-columns, columns_none, columns-st
 use Rattle.additions.proofs.additions.Goals as goal
 use Rattle.additions.proofs.additions.Goals.{At-loop-k, In-loop-k}
 
-in-range : (c : In-loop-k) → c.loop-k.k < key_count c.args.net
+in-range : (c : In-loop-k) → c.loop-k.k < key_count c.args.tables.now.graph.net
 in-range c = omega (arith, c.loop-k-test.true, c.key_count-count.ensures)
 
 -- the key node of this turn
-vertex : (c : In-loop-k) → get_or c.args.keys.now c.loop-k.k 0 ≡ key_vertex c.args.net c.loop-k.k
-vertex c = key_vertex_read _ c.requires.0 c.loop-k.k c.requires.3 (in-range c)
+vertex : (c : In-loop-k) → get_or c.args.tables.now.keys c.loop-k.k 0 ≡ key_vertex c.args.tables.now.graph.net c.loop-k.k
+vertex c = key_vertex_read _ c.args.tables.now.fit c.loop-k.k c.args.tables.now.keyed (in-range c)
 
-storage : (c : In-loop-k) → is_storage c.args.net (get_or c.args.keys.now c.loop-k.k 0) ≡ true
-storage c = rw (vertex c) (key_vertex_storage _ c.requires.0 c.loop-k.k (in-range c))
+storage : (c : In-loop-k) → is_storage c.args.tables.now.graph.net (get_or c.args.tables.now.keys c.loop-k.k 0) ≡ true
+storage c = rw (vertex c) (key_vertex_storage _ c.args.tables.now.fit c.loop-k.k (in-range c))
 
 size : (c : At-loop-k) → length c.loop-k.sums ≡ variables * signal_kinds * most_key_nodes
 size c = ap length c.loop-k.invariant.1 ∙ length-columns _ _
@@ -32,13 +32,13 @@ pub loop-k-init : goal.loop-k-init
 loop-k-init c = (search rules, columns_none _)
 
 pub weights_in-list-requires : goal.weights_in-list-requires
-weights_in-list-requires c = (c.requires.0, c.requires.1, c.requires.2, c.requires.3, storage (goal.at.weights_in-list-requires c).In-loop-k, omega arith)
+weights_in-list-requires c = (storage (goal.at.weights_in-list-requires c).In-loop-k, omega arith)
 
 pub addition_column-requires : goal.addition_column-requires
 addition_column-requires c = (
   size (goal.at.addition_column-requires c).At-loop-k,
-  omega (arith, in-range (goal.at.addition_column-requires c).In-loop-k, c.requires.0.keys),
-  rw c.weights_in-list.ensures (weights_bound signal_kinds _ _ (omega arith) c.requires.0 (storage (goal.at.addition_column-requires c).In-loop-k)),
+  omega (arith, in-range (goal.at.addition_column-requires c).In-loop-k, c.args.tables.now.fit.keys),
+  rw c.weights_in-list.ensures (weights_bound signal_kinds _ _ (omega arith) c.args.tables.now.fit (storage (goal.at.addition_column-requires c).In-loop-k)),
 )
 
 pub loop-k-preserved : goal.loop-k-preserved
@@ -50,5 +50,5 @@ loop-k-preserved c = (
 pub returns : goal.returns
 returns c =
     let l = c.loop-k in
-    let q : l.k ≡ key_count c.args.net = omega (arith, c.key_count-count.ensures) in
+    let q : l.k ≡ key_count c.args.tables.now.graph.net = omega (arith, c.key_count-count.ensures) in
     rw q at l.invariant.1 ∙ columns_all _

@@ -5,7 +5,7 @@ use Rattle.lookups.proofs.AdditionLaws.{first_columns}
 use Rattle.additions.proofs.additions.Given as goal
 
 abbrev pub invariant-loop-k : goal.invariant-loop-k
-invariant-loop-k l = (l.k ≤ key_count l.net) × (l.sums ≡ first_columns l.net l.k)
+invariant-loop-k l = (l.k ≤ key_count l.tables.graph.net) × (l.sums ≡ first_columns l.tables.graph.net l.k)
 
 abbrev pub decreases-loop-k : goal.decreases-loop-k
-decreases-loop-k l = key_count l.net - l.k
+decreases-loop-k l = key_count l.tables.graph.net - l.k
