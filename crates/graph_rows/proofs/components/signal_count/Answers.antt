@@ -5,4 +5,4 @@ use Rattle.graph_rows.proofs.components.signal_count.Goals as goal
 
 pub returns : goal.returns
 returns c =
-    c.count_flags.ensures ∙ signal_count_lem c.args.net c.args.y c.signal_flags-flags.result c.signal_flags-flags.ensures
+    c.count_flags.ensures ∙ signal_count_lem c.args.graph.now.net c.args.y c.signal_flags-flags.result c.signal_flags-flags.ensures

@@ -25,5 +25,5 @@ loop-y-preserved c =
 
 pub returns : goal.returns
 returns c =
-    let all : c.loop-y.y ≡ suc c.args.net.vertex_count = omega arith in
+    let all : c.loop-y.y ≡ suc c.args.graph.now.net.vertex_count = omega arith in
     signal_missing _ (rw all at c.loop-y.invariant.1)
