@@ -24,9 +24,5 @@ pub(crate) fn additions(net: Net) -> [u16; Net::ADDITIONS]
     requires { Fit net }
     ensures { result ≡ spec.additions net }
 {
-    let storage = graph::storage_flags(net);
-    let labels = component_labels::component_labels(net, &storage);
-    let places = signal_places::signal_places(net, &storage, &labels);
-    let keys = key_vertices::key_vertices(net);
-    additions::additions(net, &storage, &labels, &places, &keys)
+    additions::additions(&key_vertices::tables(net))
 }

@@ -106,10 +106,16 @@ pub fn fill<'a>(net: Net, excitations: &'a mut [u8; Net::VERTEX_LANES])
     requires { Fit net × (length excitations.old ≡ suc most_vertices * assignments) }
     ensures { excitations.new ≡ excitation_lanes net }
 {
-    let storage = graph::storage_flags(net);
-    let labels = component_labels::component_labels(net, &storage);
+    let graph = component_labels::graph(net);
     let inputs = signals::input_labels(net);
-    let places = signal_places::signal_places(net, &storage, &labels);
+    let places = signal_places::signal_places(&graph);
     let columns = columns();
-    fill_from(net, &storage, &inputs, &places, &columns, excitations);
+    fill_from(
+        net,
+        &graph.storage,
+        &inputs,
+        &places,
+        &columns,
+        excitations,
+    );
 }

@@ -1,35 +1,32 @@
 -- `vertex_excitation::one::value` meets its contract: the entry of the state in the vertex's row. Assumes nothing.
 use native.Mathlib.Omega.{arith}
 use borrow.Author.Rules.{rules}
+use mathlib.Core.Path.{◌≡◌}
 use Prim.Native.Nat.{◌+◌, ◌<◌}
-use Rattle.net.specs.Tables.{Prepared}
-use Rattle.net.proofs.TableLaws.{storage_row, prepared}
+use Rattle.net.proofs.TableLaws.{storage_row}
 use Rattle.lanes.specs.Lanes.{assignments}
 use Rattle.states.specs.Weights.{Small}
+use Rattle.states.specs.Weights as spec
 use Rattle.states.proofs.WeightLaws.{weights_small}
 use Rattle.soundness.proofs.OneLaws.{index_below, value_read}
 use Rattle.vertex_excitation.proofs.one.value.Goals as goal
-use Rattle.vertex_excitation.proofs.one.value.Goals.{After-component_labels-labels, After-key_part, After-weights-list}
+use Rattle.vertex_excitation.proofs.one.value.Goals.{After-key_part, After-weights-list}
 
--- the first two tables are the net's
-ready : (c : After-component_labels-labels) → Prepared c.args.net c.storage_flags-storage.result c.component_labels-labels.result
-ready c = prepared _ c.requires.0.readable c.storage_flags-storage.ensures c.component_labels-labels.ensures
+-- the weights are those of the net
+weights : (c : After-weights-list) → c.weights-list.result ≡ spec.weights c.args.net c.args.y
+weights c = rw c.tables-tables.ensures at c.weights-list.ensures
 
--- the weights are small, wherever they are used
+-- they are small, wherever they are used
 small : (c : After-weights-list) → Small c.weights-list.result
-small c = rw c.weights-list.ensures (weights_small _ _ c.requires.0 c.requires.1)
+small c = rw (weights c) (weights_small _ _ c.requires.0 c.requires.1)
 
 -- the index lies in the row
 below : (c : After-key_part) → c.letter_part-letters.result + c.key_part.result < assignments
 below c =
-    index_below _ c.requires.0 _ c.requires.1 _ _ c.weights-list.ensures c.letter_part-letters.ensures c.key_part.ensures
-
-pub signal_places-places-requires : goal.signal_places-places-requires
-signal_places-places-requires c = ready (goal.at.signal_places-places-requires c).After-component_labels-labels
+    index_below _ c.requires.0 _ c.requires.1 _ _ (weights (goal.at.After-key_part c).After-weights-list) c.letter_part-letters.ensures c.key_part.ensures
 
 pub weights-list-requires : goal.weights-list-requires
-weights-list-requires c =
-    (c.requires.0, ready (goal.at.weights-list-requires c).After-component_labels-labels, c.signal_places-places.ensures, c.key_vertices-keys.ensures, c.requires.1)
+weights-list-requires c = rw c.tables-tables.ensures c.requires.1
 
 pub letter_part-letters-requires : goal.letter_part-letters-requires
 letter_part-letters-requires c = small (goal.at.letter_part-letters-requires c).After-weights-list
@@ -49,4 +46,4 @@ bounds-excitations-y c =
 
 pub returns : goal.returns
 returns c =
-    value_read _ c.requires.0 _ c.requires.1 _ _ c.weights-list.ensures c.letter_part-letters.ensures c.key_part.ensures c.fill.ensures
+    value_read _ c.requires.0 _ c.requires.1 _ _ (weights (goal.at.returns c).After-weights-list) c.letter_part-letters.ensures c.key_part.ensures c.fill.ensures
