@@ -8,7 +8,7 @@ ghost use Rattle.net.specs.Limits.{most_vertices};
 ghost use Rattle.net.specs.Graph.{key_count};
 ghost use Rattle.net.specs.Tables.{Readable, storage_flags, output_flags, key_flags};
 
-use net::{Net, Vertex};
+use net::{Net, Vertex, by_vertex};
 
 fn storage_flag(role: u8) -> u8
     ensures { result ≡ digit (eqb role 1 || eqb role 2) }
@@ -24,12 +24,7 @@ pub fn storage_flags(net: Net) -> [u8; Net::VERTEX_PLACES]
     requires { net.vertex_count ≤ most_vertices }
     ensures { result ≡ storage_flags net }
 {
-    let mut flags = [0u8; Net::VERTEX_PLACES];
-    let count = net.vertex_count as usize;
-    for i in 0..count {
-        flags[i + 1] = storage_flag(net.vertices[i].role);
-    }
-    flags
+    by_vertex(&net, 0, |vertex| storage_flag(vertex.role))
 }
 
 // 1 at each output, 0 elsewhere.
@@ -37,12 +32,7 @@ pub fn output_flags(net: Net) -> [u8; Net::VERTEX_PLACES]
     requires { net.vertex_count ≤ most_vertices }
     ensures { result ≡ output_flags net }
 {
-    let mut flags = [0u8; Net::VERTEX_PLACES];
-    let count = net.vertex_count as usize;
-    for i in 0..count {
-        flags[i + 1] = flags::equal(net.vertices[i].role, Vertex::OUTPUT);
-    }
-    flags
+    by_vertex(&net, 0, |vertex| flags::equal(vertex.role, Vertex::OUTPUT))
 }
 
 // 1 at each key node, 0 elsewhere: a storage vertex that is the symbol of an edge in use. A symbol that is no vertex copies the flag of
@@ -53,8 +43,8 @@ pub fn key_flags(net: Net, storage: &[u8; Net::VERTEX_PLACES]) -> [u8; Net::VERT
 {
     let mut keys = [0u8; Net::VERTEX_PLACES];
     let count = net.edge_count as usize;
-    for k in 0..count {
-        let v = symbols::vertex_of(symbols::decoded(net.edges[k].symbol));
+    for edge in &net.edges[..count] {
+        let v = symbols::vertex_of(symbols::decoded(edge.symbol));
         keys[v as usize] = storage[v as usize];
     }
     keys

@@ -26,3 +26,4 @@ pub mod LocalFights
 pub mod TernaryLaws
 pub mod FourValues
 pub mod InUse
+pub mod VertexTables

@@ -13,3 +13,4 @@ pub mod Network
 pub mod WellFormed
 pub mod Ternary
 pub mod FourValues
+pub mod VertexTables

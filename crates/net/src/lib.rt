@@ -3,12 +3,14 @@
 #![tactic(auto)]
 
 mod graph;
+mod vertex_tables;
 
 ghost use Rattle.std.specs.Prelude.{◌≡◌};
 ghost use Rattle.net.specs.Limits.{limits};
 
 pub use graph::Graph;
 use ternary::Signal;
+pub use vertex_tables::by_vertex;
 
 // A vertex by its numbers on the sheet. label: an input vertex's symbol.
 #[derive(Clone, Copy)]

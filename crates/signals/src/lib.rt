@@ -7,7 +7,7 @@ ghost use Rattle.net.specs.Limits.{most_vertices};
 ghost use Rattle.net.specs.Graph.{is_storage};
 ghost use Rattle.net.specs.Tables.{input_labels, mark_symbol, mark_end, signal_flags};
 
-use net::{Graph, Net, Symbol, Vertex};
+use net::{Graph, Net, Symbol, Vertex, by_vertex};
 
 fn input_label(role: u8, label: u16) -> u16
     ensures { result ≡ cond (eqb role 0) label 0 }
@@ -20,13 +20,7 @@ pub fn input_labels(net: Net) -> [u16; Net::VERTEX_PLACES]
     requires { net.vertex_count ≤ most_vertices }
     ensures { result ≡ input_labels net }
 {
-    let mut labels = [0u16; Net::VERTEX_PLACES];
-    let count = net.vertex_count as usize;
-    for i in 0..count {
-        let vertex = net.vertices[i];
-        labels[i + 1] = input_label(vertex.role, vertex.label);
-    }
-    labels
+    by_vertex(&net, 0, |vertex| input_label(vertex.role, vertex.label))
 }
 
 // Is a vertex with this flag and label a storage vertex of the component labelled `mine`?
