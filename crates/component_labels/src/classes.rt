@@ -5,6 +5,7 @@ ghost use Rattle.net.specs.Limits.{most_vertices};
 ghost use Rattle.net.specs.Classes.{relabel, merge};
 
 use net::Net;
+use std::array;
 
 fn relabelled(label: u8, new: u8, old: u8) -> u8
     ensures { result ≡ relabel new old label }
@@ -28,9 +29,5 @@ pub(crate) fn merge_classes(labels: &mut [u8; Net::VERTEX_PLACES], u: u8, v: u8)
 pub(crate) fn own_labels() -> [u8; Net::VERTEX_PLACES]
     ensures { result ≡ table (suc most_vertices) (λ v. v) }
 {
-    let mut labels = [0u8; Net::VERTEX_PLACES];
-    for v in 0..Net::VERTEX_PLACES {
-        labels[v] = v as u8;
-    }
-    labels
+    array::from_fn(|v| v as u8)
 }

@@ -38,11 +38,7 @@ fn copy_row(places: &mut [u8; Net::SYMBOL_PLACES], x: usize, y: usize)
 }
 
 // Row y of a storage vertex, where the rows of those below it are stored. A component has one row, which is worked out once.
-fn store_row<'a, 'b>(
-    places: &'a mut [u8; Net::SYMBOL_PLACES],
-    graph: &'b Graph,
-    y: u8,
-)
+fn store_row<'a, 'b>(places: &'a mut [u8; Net::SYMBOL_PLACES], graph: &'b Graph, y: u8)
     requires { (is_storage graph.now.net y ≡ true) × (y ≤ most_vertices)
         × (length places.old ≡ suc most_vertices * symbol_bound)
         × ((x s : ℕ) → is_storage graph.now.net x ≡ true → x < y → s < symbol_bound → cell symbol_bound places.old x s ≡ signal_index graph.now.net x s) }

@@ -110,12 +110,5 @@ pub fn fill<'a>(net: Net, excitations: &'a mut [u8; Net::VERTEX_LANES])
     let inputs = signals::input_labels(net);
     let places = signal_places::signal_places(&graph);
     let columns = columns();
-    fill_from(
-        net,
-        &graph.storage,
-        &inputs,
-        &places,
-        &columns,
-        excitations,
-    );
+    fill_from(net, &graph.storage, &inputs, &places, &columns, excitations);
 }
