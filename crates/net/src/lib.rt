@@ -13,7 +13,7 @@ use ternary::Signal;
 pub use vertex_tables::by_vertex;
 
 // A vertex by its numbers on the sheet. label: an input vertex's symbol.
-#[derive(Clone, Copy)]
+#[derive(Clone, Copy, PartialEq, Eq, Default)]
 pub struct Vertex {
     pub role: u8,
     pub label: u16,
@@ -29,7 +29,7 @@ impl Vertex {
 }
 
 // An edge joins vertices end1 and end2. form: 0 to 3. symbol: a symbol's number.
-#[derive(Clone, Copy)]
+#[derive(Clone, Copy, PartialEq, Eq, PartialOrd, Ord, Default)]
 pub struct Edge {
     pub end1: u8,
     pub end2: u8,

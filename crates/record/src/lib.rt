@@ -13,25 +13,13 @@ use net::{Edge, Net, Vertex};
 fn is_no_vertex(x: Vertex) -> bool
     ensures { result ≡ is_no_vertex x }
 {
-    if x.role != 0 {
-        return false;
-    }
-    x.label == 0
+    x == Vertex::default()
 }
 
 fn is_no_edge(e: Edge) -> bool
     ensures { result ≡ is_no_edge e }
 {
-    if e.end1 != 0 {
-        return false;
-    }
-    if e.end2 != 0 {
-        return false;
-    }
-    if e.form != 0 {
-        return false;
-    }
-    e.symbol == 0
+    e == Edge::default()
 }
 
 // Is vertex place i as it must be: allowed values where it is in use, else zero?
