@@ -26,10 +26,9 @@ fn value(b: &[u8]) -> u64
     requires { length b.now ≤ most_columns }
     ensures { result ≡ field_value b.now }
 {
-    let columns = b.len();
     let mut n: u64 = 0;
-    for i in 0..columns {
-        n = n * BASE + digit(b[i]);
+    for column in b {
+        n = n * BASE + digit(*column);
     }
     n
 }
@@ -51,19 +50,18 @@ fn left_column(n: u64) -> u8
     last_column(n)
 }
 
-// Are these the columns of n? They are compared from the right, each time with one digit of n less.
+// Are these the columns of n? They are compared from the right, each time with one digit of n less, by their places as `write_field` sets them.
 fn is_field(b: &[u8], n: u64) -> bool
     requires { 1 ≤ length b.now }
     ensures { result ≡ same b.now (write_field (length b.now) n) }
 {
-    let mut i = b.len() - 1;
-    if b[i] != last_column(n) {
+    let last = b.len() - 1;
+    if b[last] != last_column(n) {
         return false;
     }
     let mut rest = n;
-    while 0 < i {
-        i = i - 1;
-        rest = rest / BASE;
+    for i in (0..last).rev() {
+        rest /= BASE;
         if b[i] != left_column(rest) {
             return false;
         }
@@ -86,7 +84,8 @@ pub fn read_field(b: &[u8], columns: usize) -> Option<u32>
     None
 }
 
-// Writes n in as many columns as are lent; of a number of more digits the last ones.
+// Writes n in as many columns as are lent; of a number of more digits the last ones. The columns go by their places: after `iter_mut().rev()` it is not
+// known what was written.
 pub fn write_field(out: &mut [u8], n: u64)
     ensures { out.new ≡ write_field (length out.old) n }
 {
@@ -94,12 +93,11 @@ pub fn write_field(out: &mut [u8], n: u64)
     if columns == 0 {
         return;
     }
-    let mut i = columns - 1;
-    out[i] = last_column(n);
+    let last = columns - 1;
+    out[last] = last_column(n);
     let mut rest = n;
-    while 0 < i {
-        i = i - 1;
-        rest = rest / BASE;
+    for i in (0..last).rev() {
+        rest /= BASE;
         out[i] = left_column(rest);
     }
 }
