@@ -49,21 +49,14 @@ pub(crate) fn edge_numbers(net: Net) -> [u32; Net::MOST_EDGES]
     numbers
 }
 
-// 1 for two equal numbers, else 0, as a number to add up; its bound keeps the sum in range.
-fn equal(a: u32, b: u32) -> u32
-    ensures { (result ≡ digit (eqb a b)) × (result < 2) }
-{
-    if a == b { 1 } else { 0 }
-}
-
 // How often a number stands among the first n.
 pub(crate) fn times_among(numbers: &[u32; Net::MOST_EDGES], n: usize, number: u32) -> u32
     requires { n ≤ most_edges }
     ensures { result ≡ times_among numbers.now n number }
 {
     let mut times: u32 = 0;
-    for j in 0..n {
-        times += equal(numbers[j], number);
+    for other in &numbers[..n] {
+        times += u32::from(*other == number);
     }
     times
 }

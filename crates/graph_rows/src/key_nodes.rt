@@ -9,13 +9,6 @@ ghost use Rattle.sheet.specs.Search.{found_of};
 
 use net::Net;
 
-// A flag as a number to add up; a byte's bound keeps the sum in range.
-fn wide(x: u8) -> usize
-    ensures { (result ≡ x) × (result < 256) }
-{
-    x as usize
-}
-
 // The vertex of the first key node above the limit.
 fn key_place(net: Net, keys: &[u8; Net::VERTEX_PLACES]) -> Option<u16>
     requires { (net.vertex_count ≤ most_vertices) × (keys.now ≡ key_flags net) }
@@ -23,13 +16,11 @@ fn key_place(net: Net, keys: &[u8; Net::VERTEX_PLACES]) -> Option<u16>
 {
     let last = net.vertex_count as usize;
     let mut found: usize = 0;
-    let mut v: usize = 0;
-    while v <= last {
-        found += wide(keys[v]);
+    for (v, key) in keys[..=last].iter().enumerate() {
+        found += usize::from(*key);
         if Net::MOST_KEY_NODES < found {
             return Some(v as u16);
         }
-        v += 1;
     }
     None
 }

@@ -43,12 +43,10 @@ pub(crate) fn partner_place(net: Net) -> Option<u16>
     let numbers = edge_numbers(net);
     let count = net.edge_count as usize;
     let above = net.vertex_count as u16 + 2;
-    let mut i: usize = 0;
-    while i < count {
+    for i in 0..count {
         if lacks_partner(&numbers, count, i) {
             return Some(above + i as u16);
         }
-        i += 1;
     }
     None
 }

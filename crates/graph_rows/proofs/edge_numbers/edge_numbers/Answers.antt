@@ -1,5 +1,5 @@
 -- The numbers of the edges before j are stored.
-use Prim.Native.Nat.{◌≤◌, ◌-◌}
+use Prim.Native.Nat.{◌≤◌}
 use native.Mathlib.Omega.{arith}
 use mathlib.Core.Path.{sym, ◌∙◌}
 use borrow.Author.Rules.{rules}
@@ -7,7 +7,7 @@ use borrow.Author.Tests.{lt-ltb, le-ltb}
 use Rattle.net.specs.Limits.{most_edges}
 use Rattle.net.specs.Graph.{edge_at}
 use Rattle.net.proofs.Filling.{fill_zeros, fill_step, fill_end}
-use Rattle.sheet.specs.EdgeNumbers.{edge_number, edge_numbers}
+use Rattle.sheet.specs.EdgeNumbers.{edge_numbers}
 use Rattle.sheet.proofs.CheckedLaws.{checked_counts, checked_range}
 use Rattle.graph_rows.proofs.edge_numbers.edge_numbers.Goals as goal
 use Rattle.graph_rows.proofs.edge_numbers.edge_numbers.Goals.{In-loop-j}
