@@ -37,12 +37,7 @@ fn vertex_fits(net: Net, i: usize) -> bool
 fn vertices_fit(net: Net) -> bool
     ensures { result ≡ all_below most_vertices (vertex_fits net) }
 {
-    for i in 0..Net::MOST_VERTICES {
-        if !vertex_fits(net, i) {
-            return false;
-        }
-    }
-    true
+    (0..Net::MOST_VERTICES).all(|i| vertex_fits(net, i))
 }
 
 // The same of edge place i.
@@ -60,12 +55,7 @@ fn edge_fits(net: Net, i: usize) -> bool
 fn edges_fit(net: Net) -> bool
     ensures { result ≡ all_below most_edges (edge_fits net) }
 {
-    for i in 0..Net::MOST_EDGES {
-        if !edge_fits(net, i) {
-            return false;
-        }
-    }
-    true
+    (0..Net::MOST_EDGES).all(|i| edge_fits(net, i))
 }
 
 // Is the record one that some accepted sheet gives? Each test may count on those before it.

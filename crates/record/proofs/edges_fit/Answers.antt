@@ -1,23 +1,15 @@
--- All places before i fit.
-use Prim.Native.Nat.{◌-◌}
-use native.Mathlib.Omega.{arith}
-use mathlib.Core.Path.{refl, sym, ◌∙◌}
-use mathlib.Core.Bool.{true}
+-- All places are tested.
+use mathlib.Core.Path.{refl, ◌∙◌}
 use borrow.Author.Rules.{rules}
-use Rattle.ternary.specs.Lists.{all_below}
-use Rattle.ternary.proofs.ListLaws.{all_more, all_fails}
+use Rattle.std.proofs.Common.{tests}
+use Rattle.std.proofs.lemmas.Iterator.{YieldsList-from_range}
+use Rattle.std.proofs.lemmas.Iterator.Search.{all_from_yields_List}
 use Rattle.net.specs.Limits.{most_edges}
 use Rattle.sheet.specs.Fitting.{edge_fits}
+use Rattle.record.proofs.RangeLaws.{all_of_range}
 use Rattle.record.proofs.edges_fit.Goals as goal
 
-pub loop-i-init : goal.loop-i-init
-unfolding all_below
-loop-i-init c = (search rules, refl)
-
-pub returns-then-not-edge_fits : goal.returns-then-not-edge_fits
-returns-then-not-edge_fits c =
-    sym (all_fails _ most_edges c.loop-i.i (omega arith) (sym c.edge_fits.ensures ∙ c.if-not-edge_fits.true))
-
-pub loop-i-preserved : goal.loop-i-preserved
-loop-i-preserved c =
-    (search rules, all_more _ _ c.loop-i.invariant.1 (sym c.edge_fits.ensures ∙ c.if-not-edge_fits.false))
+pub returns : goal.returns
+returns c =
+    all_from_yields_List (edge_fits c.args.net) _ _ _ c.all.ensures.ran (YieldsList-from_range 0 most_edges most_edges refl refl) (λ x b q k. search (rules, tests))
+    ∙ all_of_range (edge_fits c.args.net) most_edges
