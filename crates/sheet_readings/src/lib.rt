@@ -32,16 +32,9 @@ pub fn whole_lines(size: usize, columns: usize, most: usize) -> bool
 pub fn start_net(vertices: u8, edges: u16, letters: u8) -> Net
     ensures { result ≡ start_net vertices edges letters }
 {
-    let vertex = Vertex { role: 0, label: 0 };
-    let edge = Edge {
-        end1: 0,
-        end2: 0,
-        form: 0,
-        symbol: 0,
-    };
     Net {
-        vertices: [vertex; Net::MOST_VERTICES],
-        edges: [edge; Net::MOST_EDGES],
+        vertices: [Vertex::default(); Net::MOST_VERTICES],
+        edges: [Edge::default(); Net::MOST_EDGES],
         vertex_count: vertices,
         edge_count: edges,
         letter_count: letters,
