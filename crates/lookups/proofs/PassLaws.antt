@@ -19,25 +19,12 @@ use Rattle.net.specs.Network.{network, Clean, stable}
 use Rattle.net.specs.WellFormed.{C1}
 use Rattle.net.specs.Ternary.{settled}
 use Rattle.excitations.specs.Fit.{Fit}
-use Rattle.lookups.specs.declared.Passes.{Passes}
 use Rattle.lookups.specs.TernaryTables.{ternary_tables}
 use Rattle.lookups.specs.Additions.{additions}
 use Rattle.lookups.specs.LookUps.{looked_up}
 use Rattle.lookups.specs.Passing.{padded, bits, pass_by, passes_by, passes_of}
 use Rattle.lookups.proofs.Padding.{bits-padded, mix-padded, padded-same}
 use Rattle.lookups.proofs.LookUpLaws.{look_up}
-
--- what the passes of a net are, by whether the start is stable
-module _ (N : Net) (A B q : ℕ) where
-  -- both last vectors and step counts
-  abbrev pub passes_made : Passes
-  passes_made = let s = settled N A B q in record {
-    stable = true;
-    first = padded most_key_nodes s.r;
-    second = padded most_key_nodes s.t;
-    first_steps = s.first_steps;
-    second_steps = s.second_steps;
-  }
 
 module _ (N : Net) (fit : Fit N) (c1 : C1 N) where
   abbrev L : ℕ

@@ -10,6 +10,7 @@ ghost use Rattle.lanes.specs.Grid.{cell};
 ghost use Rattle.states.specs.Weights.{variables};
 ghost use Rattle.lookups.specs.LookUps as spec;
 
+use lookups::LookUps;
 use net::Net;
 use ternary::Signal;
 
@@ -26,12 +27,12 @@ fn add_row<'a, 'b>(
     additions: &'b [u16; Net::ADDITIONS],
     row: usize,
 )
-    requires { (length sums.old ≡ most_key_nodes) × (row < variables * signal_kinds) × spec.Addable sums.old additions.now row }
+    requires { (row < variables * signal_kinds) × spec.Addable sums.old additions.now row }
     ensures { sums.new ≡ table most_key_nodes (λ k. at sums.old k + cell most_key_nodes additions.now row k) }
 {
     let from = row * Net::MOST_KEY_NODES;
     for k in 0..Net::MOST_KEY_NODES {
-        sums[k] = sums[k] + additions[from + k];
+        sums[k] += additions[from + k];
     }
 }
 
@@ -45,31 +46,29 @@ pub(crate) fn sums<'a>(
     ensures { result ≡ spec.sums additions.now from signals.now }
 {
     let mut sums = [0u16; Net::MOST_KEY_NODES];
-    for i in 0..signals.len() {
+    for (i, signal) in signals.iter().enumerate() {
         add_row(
             &mut sums,
             additions,
-            (from + i) * Signal::KINDS + digit(signals[i]),
+            (from + i) * Signal::KINDS + digit(*signal),
         );
     }
     sums
 }
 
-// The next vector of h key nodes, where the letters add `base` to their indices.
-pub(crate) fn next<'a>(
-    tables: &'a [u8; Net::TERNARY_TABLES],
-    additions: &'a [u16; Net::ADDITIONS],
-    h: usize,
-    base: &'a [u16; Net::MOST_KEY_NODES],
-    vector: &'a [u8; Net::MOST_KEY_NODES],
+// The next vector, where the letters add `base` to the indices of the key nodes.
+pub(crate) fn next(
+    look_ups: &LookUps,
+    base: &[u16; Net::MOST_KEY_NODES],
+    vector: &[u8; Net::MOST_KEY_NODES],
 ) -> [u8; Net::MOST_KEY_NODES]
-    requires { (h ≤ most_key_nodes) × (length vector.now ≡ most_key_nodes) × spec.IndexedFrom base.now additions.now }
-    ensures { result ≡ spec.next_by tables.now additions.now h base.now vector.now }
+    requires { spec.IndexedFrom base.now look_ups.now.additions.now }
+    ensures { let l = look_ups.now in result ≡ spec.next_by l.tables.now l.additions.now l.count base.now vector.now }
 {
-    let key_sums = sums(additions, Net::MOST_LETTERS, vector);
+    let key_sums = sums(look_ups.additions, Net::MOST_LETTERS, vector);
     let mut next = [0u8; Net::MOST_KEY_NODES];
-    for k in 0..h {
-        next[k] = tables[k * Net::TERNARY_ASSIGNMENTS + (base[k] + key_sums[k]) as usize];
+    for k in 0..look_ups.count {
+        next[k] = look_ups.tables[k * Net::TERNARY_ASSIGNMENTS + (base[k] + key_sums[k]) as usize];
     }
     next
 }

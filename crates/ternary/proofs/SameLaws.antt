@@ -1,10 +1,12 @@
--- Lists of one length are compared place by place. Assumes nothing.
+-- Lists are compared place by place. Assumes nothing.
 use Prim.Native.Nat.{ℕ}
-use mathlib.Core.Path.{◌≡◌, sym, ap, ◌∙◌}
-use mathlib.Core.List.{List}
+use mathlib.Core.Path.{◌≡◌, refl, sym, ap, ◌∙◌}
+use mathlib.Core.Bool.{◌&&◌}
+use mathlib.Core.List.{List, [], ◌∷◌}
 use native.Mathlib.Omega.{arith}
 use lib.Dec.{eqb}
 use lib.ListN.{length, get_or}
+use lib.Pointwise.{pointwise}
 use lib.Seq.{ext_get_or}
 use borrow.Author.Tests.{eqb-true, eq-eqb}
 use Rattle.ternary.specs.Lists.{same, all_below}
@@ -17,3 +19,11 @@ same_all n l m e f = same_test _ _
     (λ t.
     let equal : l ≡ m = ext_get_or 0 l m (e ∙ sym f) (λ k h. eqb-true _ _ (all_at _ n t k (omega arith))) in
     rw equal (same_refl m))
+
+-- as the code's `==` compares them
+pub same_pointwise : (l m : List ℕ) → pointwise eqb l m ≡ same l m
+unfolding same
+same_pointwise [] [] = refl
+same_pointwise [] (y ∷ ys) = refl
+same_pointwise (x ∷ xs) [] = refl
+same_pointwise (x ∷ xs) (y ∷ ys) = ap (λ b. eqb x y && b) (same_pointwise xs ys)

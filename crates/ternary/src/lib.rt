@@ -4,6 +4,7 @@
 
 ghost use Rattle.std.specs.Prelude.{◌≡◌};
 ghost use Rattle.ternary.specs.Signal.{X};
+ghost use Rattle.ternary.specs.TruthTable.{agree};
 
 // A signal of a vector in a buffer: the byte 0, 1 or X.
 #[derive(Clone, Copy)]
@@ -22,4 +23,11 @@ pub fn unknown() -> u8
     ensures { result ≡ X }
 {
     Signal::X
+}
+
+// The value that two signals share, else X.
+pub fn agree(a: u8, b: u8) -> u8
+    ensures { result ≡ agree a b }
+{
+    if a == b { a } else { Signal::X }
 }

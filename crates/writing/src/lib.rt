@@ -1,7 +1,7 @@
 //! What settling writes: a vector's bytes, and a job's answer.
 #![tactic(auto)]
 
-ghost use Rattle.std.specs.Prelude.{◌≡◌, [], ◌∷◌, ◌++◌, ◌*◌, ◌≤◌, length, take, drop};
+ghost use Rattle.std.specs.Prelude.{◌≡◌, [], ◌∷◌, ◌++◌, ◌≤◌, length, take, drop};
 ghost use Rattle.net.specs.Limits.{most_key_nodes};
 ghost use Rattle.settlements.specs.Batch.{answer_width};
 
@@ -10,26 +10,10 @@ use settlements::Settling;
 
 // The first h bytes of a vector to the front of a buffer, and nothing beyond.
 pub fn write<'a, 'b>(buffer: &'a mut [u8], vector: &'b [u8; Net::MOST_KEY_NODES], h: usize)
-    requires { (h ≤ most_key_nodes) × (length vector.now ≡ most_key_nodes) × (h ≤ length buffer.old) }
+    requires { (h ≤ most_key_nodes) × (h ≤ length buffer.old) }
     ensures { buffer.new ≡ take h vector.now ++ drop h buffer.old }
 {
-    for i in 0..h {
-        buffer[i] = vector[i];
-    }
-}
-
-// A job's r and then its t, to its own bytes.
-pub fn write_both<'a, 'b>(
-    own: &'a mut [u8],
-    first: &'b [u8; Net::MOST_KEY_NODES],
-    second: &'b [u8; Net::MOST_KEY_NODES],
-    h: usize,
-)
-    requires { (h ≤ most_key_nodes) × (length first.now ≡ most_key_nodes) × (length second.now ≡ most_key_nodes) × (length own.old ≡ 2 * h) }
-    ensures { own.new ≡ take h first.now ++ take h second.now }
-{
-    write(own, first, h);
-    write(&mut own[h..], second, h);
+    buffer[..h].copy_from_slice(&vector[..h]);
 }
 
 // A job's number and its step counts.

@@ -13,24 +13,25 @@ use Rattle.passes.proofs.ternary_excitation.next.Goals.{After-next-1}
 -- the index of key node k
 in_row : (c : After-next-1) → (at c.args.base.now c.loop-k.k + at c.sums-key_sums.result c.loop-k.k) < ternary_assignments
 in_row c =
-    next_small c.args.additions.now c.args.tables.now c.args.h c.args.base.now _ c.requires.1 c.sums-key_sums.ensures c.loop-k.k c.requires.2 (omega arith)
+    let l = c.args.look_ups.now in
+    next_small l.additions.now l.tables.now l.count c.args.base.now _ c.told-vector c.sums-key_sums.ensures c.loop-k.k c.requires (omega (arith, l.few))
 
 pub overflow_add-next : goal.overflow_add-next
 overflow_add-next c = omega (arith, in_row (goal.at.overflow_add-next c).After-next-1)
 
-pub bounds-tables-k : goal.bounds-tables-k
-bounds-tables-k c = omega (arith, in_row (goal.at.bounds-tables-k c).After-next-1)
+pub bounds-look_ups-k : goal.bounds-look_ups-k
+bounds-look_ups-k c = omega (arith, in_row (goal.at.bounds-look_ups-k c).After-next-1)
 
 pub loop-k-preserved : goal.loop-k-preserved
 loop-k-preserved c =
-    let a = c.args in (
+    let l = c.args.look_ups.now in (
       search rules,
-      fill_step c.loop-k.invariant.1 (omega arith)
-          (next-found _ a.tables.now _ a.base.now _ c.requires.1 c.sums-key_sums.ensures c.loop-k.k (omega arith) (omega arith)),
+      fill_step c.loop-k.invariant.1 (omega (arith, l.few))
+          (next-found _ l.tables.now _ c.args.base.now _ c.told-vector c.sums-key_sums.ensures c.loop-k.k l.few (omega arith)),
     )
 
 pub returns : goal.returns
 unfolding next_by
 returns c =
-    let a = c.args in
-    fill_end c.loop-k.invariant.1 (λ j l b. next_beyond a.additions.now a.tables.now a.h a.base.now a.vector.now j (omega arith))
+    let l = c.args.look_ups.now in
+    fill_end c.loop-k.invariant.1 (λ j m b. next_beyond l.additions.now l.tables.now l.count c.args.base.now c.args.vector.now j (omega arith))

@@ -15,7 +15,6 @@ loop-i-init c = (search rules, sums-start _ _ _)
 
 pub add_row-requires : goal.add_row-requires
 add_row-requires c = (
-  rw c.loop-i.invariant.1 (length-table most_key_nodes _),
   omega arith,
   sums_addable _ _ _ c.loop-i.i c.loop-i.invariant.1 c.digit.ensures.0 (omega arith) c.requires.1,
 )
