@@ -12,20 +12,13 @@ ghost use Rattle.lookups.specs.TernaryTables.{ternary_tables};
 use net::Net;
 use ternary::Signal;
 
-// The value that two signals share, else X.
-fn shared(a: u8, b: u8) -> u8
-    ensures { result ≡ agree a b }
-{
-    if a == b { a } else { Signal::X }
-}
-
 // The last third of a table, where the last variable is X, from the two before it: row 2 of rows 0 to 2.
 fn join(out: &mut [u8], third: usize)
     requires { (0 < third) × (length out.old ≡ signal_kinds * third) }
     ensures { out.new ≡ set_row third 2 (λ i. agree (cell third out.old 0 i) (cell third out.old 1 i)) out.old }
 {
     for i in 0..third {
-        out[2 * third + i] = shared(out[i], out[third + i]);
+        out[2 * third + i] = ternary::agree(out[i], out[third + i]);
     }
 }
 
@@ -56,16 +49,15 @@ pub fn tables<'a>(
     ensures { result ≡ ternary_tables net }
 {
     let count = graph::key_count(net);
-    // Parts are taken of a slice.
-    let lanes = &excitations[..];
     let mut rows = [0u8; Net::TERNARY_TABLES];
+    // By places: of a row that `chunks_exact_mut` lent, no fact is left after the loop.
     for k in 0..count {
         let from = lane_values::wide(keys[k]) * Net::ASSIGNMENTS;
         let to = from + Net::ASSIGNMENTS;
         let start = k * Net::TERNARY_ASSIGNMENTS;
         let end = start + Net::TERNARY_ASSIGNMENTS;
         grow(
-            &lanes[from..to],
+            &excitations[from..to],
             &mut rows[start..end],
             Net::MOST_SIGNALS as u8,
         );

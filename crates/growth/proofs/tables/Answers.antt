@@ -27,7 +27,7 @@ pub loop-k-init : goal.loop-k-init
 loop-k-init c = (search rules, tables_none _ _)
 
 pub slice_bounds-grow-end : goal.slice_bounds-grow-end
-slice_bounds-grow-end c = row (goal.at.slice_bounds-grow-end c).After-wide-from
+slice_bounds-grow-end c = omega (arith, row (goal.at.slice_bounds-grow-end c).After-wide-from, c.told-excitations)
 
 pub loop-k-preserved : goal.loop-k-preserved
 loop-k-preserved c = (
