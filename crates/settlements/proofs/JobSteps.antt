@@ -1,14 +1,13 @@
 -- One job, test by test, on its own bytes.
 use Prim.Native.Nat.{ℕ}
 use mathlib.Core.Path.{◌≡◌, sym}
-use mathlib.Core.Logic.{◌≢◌}
 use mathlib.Core.Bool.{true, false}
 use mathlib.Core.List.{List}
 use lib.ListN.{take, drop}
 use Rattle.net.specs.declared.Net.{Net}
 use Rattle.net.specs.Graph.{key_count}
 use Rattle.net.specs.Network.{stable}
-use Rattle.std.specs.Prelude.{Option, None}
+use Rattle.std.specs.Prelude.{Option, Some, None}
 use Rattle.sheet.specs.declared.Job.{Job}
 use Rattle.sheet.specs.Job.{asks}
 use Rattle.sheet.specs.Rows.{answer, first_row, by_rows}
@@ -27,11 +26,11 @@ module _ (N : Net) (own : List ℕ) {j : Option Job} where
   no_job e = rw e
 
   module _ {A B q : ℕ} (asked : j ≡ asks A B q) where
-    pub bad_state : number_of N A B q ≢ 0 → left N own (number_of N A B q) ≡ job_settlement N j own
+    pub bad_state : {n : ℕ} → number_of N A B q ≡ Some n → left N own n ≡ job_settlement N j own
     unfolding job_settlement job_rows
-    bad_state ne = rw asked (sym (settle_some N A B q (job_rows N A B q) (take (key_count N) own) (drop (key_count N) own) (answer (number_of N A B q) 0) (state_refused N A B q _ ne)))
+    bad_state {n} e = rw asked (sym (settle_some N A B q (job_rows N A B q) (take (key_count N) own) (drop (key_count N) own) (answer n 0) (state_refused N A B q _ e)))
 
-    module _ (states : number_of N A B q ≡ 0) where
+    module _ (states : number_of N A B q ≡ None) where
       pub not_stable : stable N A q ≡ false → left N own 44 ≡ job_settlement N j own
       unfolding job_settlement settle_under job_rows by_rows first_row
       not_stable e = rw (asked, inputs_told N A B q states, key_told N A B q states, e)

@@ -3,10 +3,10 @@ use Prim.Native.Nat.{ℕ, zero, ◌+◌, ◌*◌, ◌/◌, ◌%◌, ◌^◌, ◌
 use native.Mathlib.Nat.{mul-zero, div-lt_iff_lt-mul}
 use native.Mathlib.Omega.{arith}
 use mathlib.Core.Path.{◌≡◌, refl, sym}
-use mathlib.Core.Logic.{◌≢◌}
-use mathlib.Core.Bool.{Bool, true, false, cond, not, ◌&&◌}
+use mathlib.Core.Bool.{Bool, true, false, cond, not, ◌&&◌, true≢false}
 use mathlib.Core.List.{List, ◌∷◌}
 use mathlib.Core.Option.{some}
+use Rattle.std.specs.Prelude.{Option, Some, None}
 use lib.Dec.{ltb}
 use lib.ListN.{length}
 use borrow.Author.Tests.{ltb-true, lt-ltb, le-ltb}
@@ -32,63 +32,55 @@ by_width bytes count width ne =
     (λ e. lt-ltb _ _ (iff.0 (ltb-true _ _ e)))
     (λ e. lt-ltb _ _ (iff.1 (ltb-true _ _ e)))
 
-pub count-whole : (jobs : List ℕ) → length jobs % line_width ≡ 0 → length jobs / line_width ≡ job_count jobs
-unfolding job_count
-count-whole jobs e = omega arith
-
-pub count_short : (jobs : List ℕ) → (length jobs % line_width ≡ 0 → ⊥) → length jobs / line_width + 1 ≡ job_count jobs
-unfolding job_count
-count_short jobs ne = omega arith
-
 -- ---- states
 
 -- by the tests of the inputs and of the start
-abbrev number_by : Bool → Bool → ℕ
-number_by i k = cond i (cond k 0 43) 42
+abbrev number_by : Bool → Bool → Option ℕ
+number_by i k = cond i (cond k None (Some 43)) (Some 42)
 
-refused-first : (rows : List Row) (i k : Bool) → number_by i k ≢ 0
-    → first_row (row 42 (when (not i)) ∷ row 43 (when (not k)) ∷ rows) ≡ some (answer (number_by i k) 0)
+refused-first : (rows : List Row) (i k : Bool) (n : ℕ) → number_by i k ≡ Some n
+    → first_row (row 42 (when (not i)) ∷ row 43 (when (not k)) ∷ rows) ≡ some (answer n 0)
 unfolding first_row
-refused-first rows true true ne = absurd (ne refl)
-refused-first rows true false ne = refl
-refused-first rows false k ne = refl
+refused-first rows true true n e = absurd (true≢false (cc))
+refused-first rows true false n e = cc
+refused-first rows false k n e = cc
 
-passed : (i k : Bool) → number_by i k ≡ 0 → (i ≡ true) × (k ≡ true)
-passed true true z = (refl, refl)
-passed true false z = absurd (omega arith)
-passed false k z = absurd (omega arith)
+passed : (i k : Bool) → number_by i k ≡ None → (i ≡ true) × (k ≡ true)
+passed true true e = (refl, refl)
+passed true false e = absurd (true≢false (cc))
+passed false k e = absurd (true≢false (cc))
 
 -- the tests in their order, with L letters and h key nodes
 module _ (L h A B q : ℕ) where
-  pub old_refused : ltb A (2 ^ L) ≡ false → 42 ≡ state_number L h A B q
+  pub old_refused : ltb A (2 ^ L) ≡ false → Some 42 ≡ state_number L h A B q
   unfolding state_number
   old_refused e = rw e
 
   module _ (old : ltb A (2 ^ L) ≡ true) where
-    pub new_refused : ltb B (2 ^ L) ≡ false → 42 ≡ state_number L h A B q
+    pub new_refused : ltb B (2 ^ L) ≡ false → Some 42 ≡ state_number L h A B q
     unfolding state_number
     new_refused e = rw (old, e)
 
     module _ (new : ltb B (2 ^ L) ≡ true) where
-      pub start-refused : ltb q (2 ^ h) ≡ false → 43 ≡ state_number L h A B q
+      pub start-refused : ltb q (2 ^ h) ≡ false → Some 43 ≡ state_number L h A B q
       unfolding state_number
       start-refused e = rw (old, new, e)
 
-      pub none_refused : ltb q (2 ^ h) ≡ true → 0 ≡ state_number L h A B q
+      pub none_refused : ltb q (2 ^ h) ≡ true → None ≡ state_number L h A B q
       unfolding state_number
       none_refused e = rw (old, new, e)
 
 -- what the number tells of a net
-abbrev pub number_of : Net → ℕ → ℕ → ℕ → ℕ
+abbrev pub number_of : Net → ℕ → ℕ → ℕ → Option ℕ
 number_of N A B q = state_number N.letter_count (key_count N) A B q
 
 module _ (N : Net) (A B q : ℕ) where
-  pub state_refused : (rows : List Row) → number_of N A B q ≢ 0
-      → first_row (row 42 (when (not (is_input_state N A && is_input_state N B))) ∷ row 43 (when (not (is_key_state N q))) ∷ rows) ≡ some (answer (number_of N A B q) 0)
+  pub state_refused : (rows : List Row) {n : ℕ} → number_of N A B q ≡ Some n
+      → first_row (row 42 (when (not (is_input_state N A && is_input_state N B))) ∷ row 43 (when (not (is_key_state N q))) ∷ rows) ≡ some (answer n 0)
   unfolding state_number
-  state_refused rows ne = refused-first rows (is_input_state N A && is_input_state N B) (is_key_state N q) ne
+  state_refused rows e = refused-first rows (is_input_state N A && is_input_state N B) (is_key_state N q) _ e
 
-  module _ (e : number_of N A B q ≡ 0) where
+  module _ (e : number_of N A B q ≡ None) where
     both : ((is_input_state N A && is_input_state N B) ≡ true) × (is_key_state N q ≡ true)
     unfolding state_number
     both = passed (is_input_state N A && is_input_state N B) (is_key_state N q) e

@@ -3,6 +3,7 @@ use Prim.Native.Nat.{ℕ, ◌≤◌}
 use mathlib.Core.Path.{◌≡◌, sym, subst, ◌∙◌}
 use mathlib.Core.Bool.{true, false}
 use mathlib.Core.List.{List}
+use Rattle.std.specs.Prelude.{None}
 use lib.ListN.{length, take}
 use lib.Seq.{ext_get_or}
 use Rattle.ternary.specs.Lists.{table}
@@ -39,7 +40,7 @@ module _ {N : Net} {h : ℕ} {tables additions : List ℕ} (ready : Ready N h ta
   pub indexed : Indexed additions
   indexed = subst Indexed (sym ready.added) (additions_indexed N ready.fit)
 
-  module _ (A B q : ℕ) (states : number_of N A B q ≡ 0) where
+  module _ (A B q : ℕ) (states : number_of N A B q ≡ None) where
     by_net : passes_by tables additions h A B q ≡ passes_of N A B q
     by_net =
         rw (ready.tabled, ready.added, ready.keys)

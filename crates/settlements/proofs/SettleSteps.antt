@@ -1,7 +1,6 @@
 -- The settling call, test by test.
 use Prim.Native.Nat.{ℕ, ◌≤◌, ◌<◌}
 use mathlib.Core.Path.{◌≡◌, sym}
-use mathlib.Core.Logic.{◌≢◌}
 use mathlib.Core.Bool.{true, false, not, ◌||◌}
 use mathlib.Core.List.{List, [], ◌∷◌}
 use mathlib.Core.Option.{none}
@@ -12,7 +11,7 @@ use Rattle.net.specs.declared.Net.{Net}
 use Rattle.net.specs.Graph.{key_count}
 use Rattle.net.specs.Network.{stable}
 use Rattle.net.specs.WellFormed.{place_c1}
-use Rattle.std.specs.Prelude.{Some}
+use Rattle.std.specs.Prelude.{Some, None}
 use Rattle.sheet.specs.Rows.{answer, row, when, first_row, by_rows}
 use Rattle.sheet.specs.Search.{found_of}
 use Rattle.sheet.specs.Valid.{valid}
@@ -32,11 +31,11 @@ module _ (N : Net) (A B q : ℕ) (R T : List ℕ) where
     breaks_c1 e = rw (ok, found_some (place_c1 N) e)
 
     module _ (c1 : place_c1 N ≡ none) where
-      pub bad_state : number_of N A B q ≢ 0 → settlement (settling (number_of N A B q) 0 0 0) R T ≡ settle_of N A B q R T
+      pub bad_state : {n : ℕ} → number_of N A B q ≡ Some n → settlement (settling n 0 0 0) R T ≡ settle_of N A B q R T
       unfolding settle_of settle_rows first_row
-      bad_state ne = sym (settle_some N A B q (settle_rows N A B q R T) R T (answer (number_of N A B q) 0) (rw (ok, c1) (state_refused N A B q (row 45 (when (ltb (length R) (key_count N) || ltb (length T) (key_count N))) ∷ row 44 (when (not (stable N A q))) ∷ []) ne)))
+      bad_state {n} e = sym (settle_some N A B q (settle_rows N A B q R T) R T (answer n 0) (rw (ok, c1) (state_refused N A B q (row 45 (when (ltb (length R) (key_count N) || ltb (length T) (key_count N))) ∷ row 44 (when (not (stable N A q))) ∷ []) e)))
 
-      module _ (states : number_of N A B q ≡ 0) where
+      module _ (states : number_of N A B q ≡ None) where
         pub short_r : length R < key_count N → settlement (settling 45 0 0 0) R T ≡ settle_of N A B q R T
         unfolding settle_of settle_under settle_rows by_rows first_row
         short_r h = rw (ok, c1, inputs_told N A B q states, key_told N A B q states, lt-ltb (length R) (key_count N) h)

@@ -8,10 +8,10 @@ use Rattle.job_tests.proofs.state_number.Goals as goal
 use Rattle.job_tests.proofs.state_number.Goals.{Else-not-is_below, Else-not-is_below-2}
 
 -- what has passed so far
-old-state : (c : Else-not-is_below) → ltb c.args.old (2 ^ c.args.letters) ≡ true
+old-state : (c : Else-not-is_below) → ltb c.args.job.old (2 ^ c.args.letters) ≡ true
 old-state c = sym c.is_below.ensures ∙ c.if-not-is_below.false
 
-new-state : (c : Else-not-is_below-2) → ltb c.args.new (2 ^ c.args.letters) ≡ true
+new-state : (c : Else-not-is_below-2) → ltb c.args.job.new (2 ^ c.args.letters) ≡ true
 new-state c = sym c.is_below-2.ensures ∙ c.if-not-is_below-2.false
 
 pub returns-then-not-is_below : goal.returns-then-not-is_below
