@@ -4,55 +4,56 @@
 ghost use Rattle.std.specs.Prelude.{◌≡◌, ◌*◌, ◌≤◌, length, take, drop};
 ghost use Rattle.net.specs.Graph.{key_count};
 ghost use Rattle.sheet.specs.Job.{job_of};
+ghost use Rattle.lookups.specs.Passing.{passes_by};
 ghost use Rattle.settlements.specs.Settle.{settlement};
+ghost use Rattle.settlements.specs.Passed.{settled_by};
 ghost use Rattle.settlements.specs.Batch.{job_count, pieces, job_width, answer_width, job_settlement, buffers, run_jobs};
 ghost use Rattle.settlements.specs.Numbers.{piece_end};
 ghost use Rattle.settlements.specs.Ready.{Ready};
 
+use lookups::LookUps;
 use net::Net;
 use settlements::Settling;
-use sheet::{Answer, Sheet};
+use sheet::{Answer, Job, Sheet};
 
-// One job on its own bytes: its r, then its t.
-fn job<'a, 'b>(
-    net: Net,
-    h: usize,
-    tables: &'a [u8; Net::TERNARY_TABLES],
-    additions: &'a [u16; Net::ADDITIONS],
-    line: &'a [u8],
-    own: &'b mut [u8],
-) -> Settling
-    requires { Ready net h tables.now additions.now × (length own.old ≡ job_width net) }
-    ensures { settlement result (take (key_count net) own.new) (drop (key_count net) own.new) ≡ job_settlement net (job_of line.now) own.old }
+// Both passes of a job, and r and t to the front of two buffers with room; a start that is not stable is refused.
+pub fn settle(look_ups: &LookUps, job: Job, r: &mut [u8], t: &mut [u8]) -> Settling
+    requires { let l = look_ups.now in (l.count ≤ length r.old) × (l.count ≤ length t.old) }
+    ensures { let l = look_ups.now in settlement result r.new t.new ≡ settled_by l.count (passes_by l.tables.now l.additions.now l.count job.old job.new job.start) r.old t.old }
 {
-    let Some(asked) = line_values::job(line) else {
-        return job_tests::refused(Answer::NO_JOB, 0);
-    };
-    let letters = net.letter_count as usize;
-    let number = job_tests::state_number(letters, h, asked.old, asked.new, asked.start);
-    if number != 0 {
-        return job_tests::refused(number, 0);
-    }
     let passed = passes::passes(
-        tables,
-        additions,
-        h,
-        asked.old as usize,
-        asked.new as usize,
-        asked.start as usize,
+        look_ups,
+        job.old as usize,
+        job.new as usize,
+        job.start as usize,
     );
-    if !passed.stable {
+    let Some(passed) = passed else {
         return job_tests::refused(Answer::UNSTABLE_START, 0);
-    }
-    let first = passed.first;
-    let second = passed.second;
-    writing::write_both(own, &first, &second, h);
+    };
+    writing::write(r, &passed.first, look_ups.count);
+    writing::write(t, &passed.second, look_ups.count);
     Settling {
         number: 0,
         place: 0,
         first_steps: passed.first_steps,
         second_steps: passed.second_steps,
     }
+}
+
+// One job on its own bytes: its r, then its t.
+fn job(net: Net, look_ups: &LookUps, line: &[u8], own: &mut [u8]) -> Settling
+    requires { let l = look_ups.now in Ready net l.count l.tables.now l.additions.now × (length own.old ≡ job_width net) }
+    ensures { settlement result (take (key_count net) own.new) (drop (key_count net) own.new) ≡ job_settlement net (job_of line.now) own.old }
+{
+    let Some(asked) = line_values::job(line) else {
+        return job_tests::refused(Answer::NO_JOB, 0);
+    };
+    let letters = net.letter_count as usize;
+    if let Some(number) = job_tests::state_number(letters, look_ups.count, asked) {
+        return job_tests::refused(number, 0);
+    }
+    let (r, t) = own.split_at_mut(look_ups.count);
+    settle(look_ups, asked, r, t)
 }
 
 // Where the piece that starts at `from` ends among so many bytes: a short last piece ends with them.
@@ -67,19 +68,11 @@ fn piece_end(len: usize, from: usize) -> usize
 }
 
 // All jobs in turn, each lent its own middle part of the results. `from`, `at` and `place` are where the next job's line, results and answer start.
-pub fn run<'a, 'b>(
-    net: Net,
-    h: usize,
-    tables: &'a [u8; Net::TERNARY_TABLES],
-    additions: &'a [u16; Net::ADDITIONS],
-    lines: &'a [u8],
-    results: &'b mut [u8],
-    answers: &'b mut [u8],
-)
-    requires { Ready net h tables.now additions.now × (job_count lines.now * job_width net ≤ length results.old) × (job_count lines.now * answer_width ≤ length answers.old) }
+pub fn run(net: Net, look_ups: &LookUps, lines: &[u8], results: &mut [u8], answers: &mut [u8])
+    requires { let l = look_ups.now in Ready net l.count l.tables.now l.additions.now × (job_count lines.now * job_width net ≤ length results.old) × (job_count lines.now * answer_width ≤ length answers.old) }
     ensures { buffers results.new answers.new ≡ run_jobs net (pieces (job_count lines.now) lines.now) results.old answers.old }
 {
-    let width = Settling::VECTORS * h;
+    let width = Settling::VECTORS * look_ups.count;
     let mut from: usize = 0;
     let mut at: usize = 0;
     let mut place: usize = 0;
@@ -87,14 +80,7 @@ pub fn run<'a, 'b>(
         let to = piece_end(lines.len(), from);
         let end = at + width;
         let next = place + Settling::ANSWER_BYTES;
-        let answer = job(
-            net,
-            h,
-            tables,
-            additions,
-            &lines[from..to],
-            &mut results[at..end],
-        );
+        let answer = job(net, look_ups, &lines[from..to], &mut results[at..end]);
         writing::write_answer(&mut answers[place..next], answer);
         from = to;
         at = end;

@@ -6,6 +6,7 @@ ghost use Rattle.lookups.specs.LookUps.{Indexed};
 use net::Net;
 
 // The ternary tables of the key nodes, what each signal adds to an index into them, and how many key nodes there are.
+#[derive(Clone, Copy)]
 pub struct LookUps<'a> {
     pub tables: &'a [u8; Net::TERNARY_TABLES],
     pub additions: &'a [u16; Net::ADDITIONS],

@@ -11,27 +11,25 @@ ghost use Rattle.sheet.specs.Valid.{valid};
 ghost use Rattle.settlements.specs.Settle.{settlement, settle_of};
 ghost use Rattle.settlements.specs.Batch.{batched, batch_of};
 
+use lookups::LookUps;
 use net::Net;
 use settlements::Settling;
-use sheet::Answer;
+use sheet::{Answer, Job};
 
 // Settling: the states, the buffers, then the start.
 pub fn settle<'a, 'b>(
     net: Net,
     excitations: &'a [u8; Net::VERTEX_LANES],
-    old: u32,
-    new: u32,
-    start: u32,
+    job: Job,
     r: &'b mut [u8],
     t: &'b mut [u8],
 ) -> Settling
     requires { (valid net ≡ true) × (place_c1 net ≡ none) × (excitations.now ≡ excitation_lanes net) }
-    ensures { settlement result r.new t.new ≡ settle_of net old new start r.old t.old }
+    ensures { settlement result r.new t.new ≡ settle_of net job.old job.new job.start r.old t.old }
 {
     let h = graph::key_count(net);
     let letters = net.letter_count as usize;
-    let number = job_tests::state_number(letters, h, old, new, start);
-    if number != 0 {
+    if let Some(number) = job_tests::state_number(letters, h, job) {
         return job_tests::refused(number, 0);
     }
     if r.len() < h {
@@ -40,29 +38,14 @@ pub fn settle<'a, 'b>(
     if t.len() < h {
         return job_tests::refused(Answer::SHORT_BUFFER, 0);
     }
-    let rows = prepared::ternary_tables(net, excitations);
+    let tables = prepared::ternary_tables(net, excitations);
     let additions = prepared::additions(net);
-    let passed = passes::passes(
-        &rows,
-        &additions,
-        h,
-        old as usize,
-        new as usize,
-        start as usize,
-    );
-    if !passed.stable {
-        return job_tests::refused(Answer::UNSTABLE_START, 0);
-    }
-    let first = passed.first;
-    let second = passed.second;
-    writing::write(r, &first, h);
-    writing::write(t, &second, h);
-    Settling {
-        number: 0,
-        place: 0,
-        first_steps: passed.first_steps,
-        second_steps: passed.second_steps,
-    }
+    let look_ups = LookUps {
+        tables: &tables,
+        additions: &additions,
+        count: h,
+    };
+    batch_jobs::settle(&look_ups, job, r, t)
 }
 
 // A batch: room for all jobs, then the jobs.
@@ -90,9 +73,14 @@ pub fn batch<'a, 'b>(
             place: 0,
         };
     }
-    let rows = prepared::ternary_tables(net, excitations);
+    let tables = prepared::ternary_tables(net, excitations);
     let additions = prepared::additions(net);
-    batch_jobs::run(net, h, &rows, &additions, lines, results, answers);
+    let look_ups = LookUps {
+        tables: &tables,
+        additions: &additions,
+        count: h,
+    };
+    batch_jobs::run(net, &look_ups, lines, results, answers);
     Answer {
         number: 0,
         place: 0,

@@ -13,7 +13,7 @@ use Rattle.batch_jobs.proofs.run.Goals.{After-piece_end-to}
 ends : (c : After-piece_end-to) → Ends c.args.lines.now c.loop-from.from c.piece_end-to.result
 ends c = rw c.piece_end-to.ensures (piece-ends _ _ c.loop-from-test.true)
 
-results_fit : (c : After-piece_end-to) → c.loop-from.at + 2 * c.args.h ≤ length c.loop-from.results
+results_fit : (c : After-piece_end-to) → c.loop-from.at + 2 * c.args.look_ups.now.count ≤ length c.loop-from.results
 results_fit c = let v = c.loop-from.invariant in results_now v.1 (ends c) v.0
 
 answers-fit : (c : After-piece_end-to) → c.loop-from.place + answer_width ≤ length c.loop-from.answers

@@ -10,9 +10,11 @@ use Rattle.net.proofs.WellFormed.{place_c1_none}
 use Rattle.excitations.specs.Fit.{Fit}
 use Rattle.troubles.proofs.FitLaws.{valid_fit}
 use Rattle.settlements.specs.Batch.{job_count, job_width, answer_width}
+use Rattle.settlements.specs.Ready.{Ready}
+use Rattle.settlements.proofs.PassedLaws.{few_keys, indexed}
 use Rattle.settlements.proofs.BatchSteps.{short_results, short_answers, all_run}
 use Rattle.sound_settling.proofs.batch.Goals as goal
-use Rattle.sound_settling.proofs.batch.Goals.{After-is_short, After-is_short-2, Start}
+use Rattle.sound_settling.proofs.batch.Goals.{After-additions-additions, After-is_short, After-is_short-2, Start}
 
 fit : (c : Start) → Fit c.args.net
 fit c = valid_fit _ c.requires.0
@@ -40,21 +42,29 @@ pub returns-then-is_short-2 : goal.returns-then-is_short-2
 returns-then-is_short-2 c =
     short_answers _ _ _ _ c.requires.0 c.requires.1 (sym (results-told (goal.at.returns-then-is_short-2 c).After-is_short) ∙ c.if-is_short.false) (sym (answers-told (goal.at.returns-then-is_short-2 c).After-is_short-2) ∙ c.if-is_short-2.true)
 
-pub ternary_tables-rows-requires : goal.ternary_tables-rows-requires
-ternary_tables-rows-requires c = (fit (goal.at.ternary_tables-rows-requires c).Start, c.requires.2)
+pub ternary_tables-tables-requires : goal.ternary_tables-tables-requires
+ternary_tables-tables-requires c = (fit (goal.at.ternary_tables-tables-requires c).Start, c.requires.2)
 
 pub additions-additions-requires : goal.additions-additions-requires
 additions-additions-requires c = fit (goal.at.additions-additions-requires c).Start
 
+-- what is prepared
+ready : (c : After-additions-additions) → Ready c.args.net c.key_count-h.result c.ternary_tables-tables.result c.additions-additions.result
+ready c =
+    record {
+      fit = fit (goal.at.After-additions-additions c).Start;
+      c1 = (place_c1_none _).0 c.requires.1;
+      keys = c.key_count-h.ensures;
+      tabled = c.ternary_tables-tables.ensures;
+      added = c.additions-additions.ensures;
+    }
+
+pub invariant_of-look_ups : goal.invariant_of-look_ups
+invariant_of-look_ups c = let p = ready (goal.at.invariant_of-look_ups c).After-additions-additions in record { few = few_keys p; indexed = indexed p }
+
 pub run-requires : goal.run-requires
 run-requires c = (
-  record {
-    fit = fit (goal.at.run-requires c).Start;
-    c1 = (place_c1_none _).0 c.requires.1;
-    keys = c.key_count-h.ensures;
-    tabled = c.ternary_tables-rows.ensures;
-    added = c.additions-additions.ensures;
-  },
+  ready (goal.at.run-requires c).After-additions-additions,
   ltb-false _ _ (sym (results-told (goal.at.run-requires c).After-is_short) ∙ c.if-is_short.false),
   ltb-false _ _ (sym (answers-told (goal.at.run-requires c).After-is_short-2) ∙ c.if-is_short-2.false),
 )
