@@ -10,3 +10,4 @@ pub mod PieceLaws
 pub mod JobsInTurn
 pub mod BatchSteps
 pub mod RunLaws
+pub mod RefusalLaws

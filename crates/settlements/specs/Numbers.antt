@@ -1,5 +1,11 @@
--- The tests that settling and a job share, and how a batch is measured, as the code tests them.
+-- The tests that settling, a batch and a job share, and how a batch is measured, as the code tests them.
 use Rattle.std.specs.Prelude.{ℕ, ◌+◌, ◌-◌, ◌^◌, cond, ◌&&◌, ltb, Option, Some, None}
+use Rattle.std.proofs.Math.Option.{none, some}
+use Rattle.net.specs.declared.Net.{Net}
+use Rattle.net.specs.WellFormed.{place_c1}
+use Rattle.sheet.specs.declared.Answer.{Answer}
+use Rattle.sheet.specs.Rows.{answer}
+use Rattle.sheet.specs.Valid.{valid}
 use Rattle.sheet.specs.Limits.{line_width}
 
 -- with L letters and h key nodes: 42 where A or B is no input state, 43 where q is no key state, else no number
@@ -9,3 +15,7 @@ state_number L h A B q = cond (ltb A (2 ^ L) && ltb B (2 ^ L)) (cond (ltb q (2 ^
 -- where the piece that starts at `from` ends among so many bytes: a short last piece ends with them
 unfoldable pub piece_end : ℕ → ℕ → ℕ
 piece_end len from = cond (ltb (len - from) line_width) len (from + line_width)
+
+-- 41 for a record that no accepted sheet gives, 31 with its place for one that breaks C1
+unfoldable pub net_refusal : Net → Option Answer
+net_refusal N = cond (valid N) (elim (place_c1 N) [ none ↦ None | some p ↦ Some (answer 31 p) ]) (Some (answer 41 0))

@@ -1,13 +1,35 @@
 //! Settling and batches: the two passes as calls with their numbers and lent buffers. What each answers is defined in the crate `settlements`.
 #![tactic(auto)]
 
-ghost use Rattle.std.specs.Prelude.{◌≡◌};
+ghost use Rattle.std.specs.Prelude.{◌≡◌, None};
+ghost use Rattle.excitations.specs.Excitations.{excitation_lanes};
 ghost use Rattle.settlements.specs.Settle.{settlement, settle_of};
 ghost use Rattle.settlements.specs.Batch.{batched, batch_of};
+ghost use Rattle.settlements.specs.Numbers.{net_refusal};
 
 use net::Net;
 use settlements::Settling;
-use sheet::Answer;
+use sheet::{Answer, Job};
+
+// What a record is refused with, if it is: it is none of an accepted sheet, or breaks C1. Else its excitations are left to the caller.
+fn refusal(net: Net, excitations: &mut [u8; Net::VERTEX_LANES]) -> Option<Answer>
+    ensures told { result ≡ net_refusal net }
+    ensures excited { result ≡ None → excitations.new ≡ excitation_lanes net }
+{
+    if !record::is_record(net) {
+        return Some(Answer {
+            number: Answer::BAD_RECORD,
+            place: 0,
+        });
+    }
+    if let Some(place) = c1::lowest_break(net, excitations) {
+        return Some(Answer {
+            number: Answer::BREAKS_C1,
+            place,
+        });
+    }
+    None
+}
 
 // Settling from an old to a new input state and a start: any record, any numbers, any two buffers.
 pub fn settle<'a>(
@@ -20,14 +42,11 @@ pub fn settle<'a>(
 ) -> Settling
     ensures { settlement result r.new t.new ≡ settle_of net old new start r.old t.old }
 {
-    if !record::is_record(net) {
-        return job_tests::refused(Answer::BAD_RECORD, 0);
-    }
     let mut excitations = [0u8; Net::VERTEX_LANES];
-    match c1::lowest_break(net, &mut excitations) {
-        Some(place) => job_tests::refused(Answer::BREAKS_C1, place),
-        None => sound_settling::settle(net, &excitations, old, new, start, r, t),
+    if let Some(answer) = refusal(net, &mut excitations) {
+        return job_tests::refused(answer.number, answer.place);
     }
+    sound_settling::settle(net, &excitations, Job { old, new, start }, r, t)
 }
 
 // A batch: every job on its own bytes of the results, with its own bytes of the answers.
@@ -39,18 +58,9 @@ pub fn batch<'a, 'b>(
 ) -> Answer
     ensures { batched result results.new answers.new ≡ batch_of net jobs.now results.old answers.old }
 {
-    if !record::is_record(net) {
-        return Answer {
-            number: Answer::BAD_RECORD,
-            place: 0,
-        };
-    }
     let mut excitations = [0u8; Net::VERTEX_LANES];
-    match c1::lowest_break(net, &mut excitations) {
-        Some(place) => Answer {
-            number: Answer::BREAKS_C1,
-            place: place,
-        },
-        None => sound_settling::batch(net, &excitations, jobs, results, answers),
+    if let Some(answer) = refusal(net, &mut excitations) {
+        return answer;
     }
+    sound_settling::batch(net, &excitations, jobs, results, answers)
 }
