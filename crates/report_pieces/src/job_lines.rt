@@ -39,7 +39,7 @@ fn write_job<'a, 'b>(out: &'a mut [u8], h: usize, n: usize, three: &'b [u8], own
     crate::line_vectors::write_both(&mut out[end..], h, number, own);
 }
 
-// The lines of so many jobs, the first of them numbered `first`, to the front of a buffer. `at`, `from` and `place` are where the next job's line, results and answer start.
+// The lines of so many jobs, the first of them numbered `first`, to the front of a buffer.
 pub(crate) fn write_jobs<'a, 'b>(
     out: &'a mut [u8],
     h: usize,
@@ -53,22 +53,16 @@ pub(crate) fn write_jobs<'a, 'b>(
 {
     let line = job_bytes(h);
     let width = Settling::VECTORS * h;
-    let mut at: usize = 0;
-    let mut from: usize = 0;
-    let mut place: usize = 0;
     for i in 0..count {
-        let end = at + line;
-        let to = from + width;
-        let next = place + Settling::ANSWER_BYTES;
+        let at = i * line;
+        let from = i * width;
+        let place = i * Settling::ANSWER_BYTES;
         write_job(
-            &mut out[at..end],
+            &mut out[at..at + line],
             h,
             first + i,
-            &answers[place..next],
-            &results[from..to],
+            &answers[place..place + Settling::ANSWER_BYTES],
+            &results[from..from + width],
         );
-        at = end;
-        from = to;
-        place = next;
     }
 }

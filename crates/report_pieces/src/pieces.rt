@@ -22,27 +22,16 @@ const ANSWER_BYTES: usize = Report::PIECE_JOBS * Settling::ANSWER_BYTES;
 fn most_bytes(first: u32) -> usize
     ensures { result ≡ min piece_jobs (suc most_jobs - first) * line_width }
 {
-    let number = first as usize;
-    if Report::MOST_JOBS < number {
-        return 0;
-    }
-    let left = Report::MOST_JOBS + 1 - number;
-    if Report::PIECE_JOBS < left {
-        return Report::PIECE_LINES;
-    }
-    left * Sheet::LINE_WIDTH
+    let left = (Report::MOST_JOBS + 1).saturating_sub(first as usize);
+    Report::PIECE_JOBS.min(left) * Sheet::LINE_WIDTH
 }
 
 // The lines that are read of a piece whose first job has this number.
 pub(crate) fn read_lines(first: u32, lines: &[u8]) -> &[u8]
     ensures { result.now ≡ read_lines first lines.now }
 {
-    let size = lines.len();
-    let most = most_bytes(first);
-    if size < most {
-        return &lines[0..size];
-    }
-    &lines[0..most]
+    let end = most_bytes(first).min(lines.len());
+    &lines[..end]
 }
 
 // Zeros for the jobs of a piece, of which a call lends as many as its jobs need.

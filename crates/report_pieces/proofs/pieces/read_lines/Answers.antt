@@ -1,9 +1,8 @@
--- `pieces::read_lines` meets its contract: all lines, or the first of them. Assumes nothing.
-use Rattle.output.proofs.ReadLines.{read_all, read_part}
+-- `pieces::read_lines` meets its contract: the first of the lines, or all. Assumes nothing.
+use Rattle.std.proofs.lemmas.List.{take_min}
+use Rattle.output.specs.Calls.{read_lines}
 use Rattle.report_pieces.proofs.pieces.read_lines.Goals as goal
 
-pub returns-then-size-most : goal.returns-then-size-most
-returns-then-size-most c = read_all _ _ _ c.most_bytes-most.ensures c.if-size-most.true
-
 pub returns : goal.returns
-returns c = read_part _ _ _ c.most_bytes-most.ensures
+unfolding read_lines
+returns c = rw (c.min-end.ensures, c.most_bytes.ensures) (take_min _ _)
