@@ -34,12 +34,7 @@ pub fn judge(sheet: &[u8]) -> Judged
 fn goes_on(number: u8) -> bool
     ensures { result ≡ goes_on number }
 {
-    match number {
-        0 => true,
-        Answer::BREAKS_C2 => true,
-        Answer::BREAKS_C3 => true,
-        _ => false,
-    }
+    matches!(number, 0 | Answer::BREAKS_C2 | Answer::BREAKS_C3)
 }
 
 // What is said of the first line: after some numbers nothing follows it.
@@ -62,7 +57,7 @@ pub fn opening<'a, 'b>(sheet: &'a [u8], out: &'b mut [u8]) -> Written
     let judged = judge(sheet);
     let answer = judged.answer;
     line_numbers::write_first_line(
-        &mut out[0..Report::OPENING_BYTES],
+        &mut out[..Report::OPENING_BYTES],
         answer.number,
         answer.place,
         judged.keys as usize,

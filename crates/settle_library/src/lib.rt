@@ -54,11 +54,7 @@ fn tell(wrote: Written, written: &mut u32) -> u32
     ensures { told result written.new ≡ numbers_of wrote }
 {
     match wrote {
-        Written::Bytes(n) => {
-            *written = n;
-            0
-        }
-        Written::Last(n) => {
+        Written::Bytes(n) | Written::Last(n) => {
             *written = n;
             0
         }
