@@ -8,13 +8,12 @@ use lib.Dec.{ltb}
 use lib.ListN.{length, take, drop, length-take, drop_of_length-le}
 use lib.Seq.{take_all, take_at, take-take, take-nil}
 use borrow.Author.Tests.{ltb-true, ltb-false, lt-ltb, le-ltb}
+use Rattle.std.specs.Prelude.{Option, Some, None}
 use Rattle.ternary.proofs.Tests.{by_test, cond_by, or_false_iff}
 use Rattle.sheet.specs.Limits.{line_width}
 use Rattle.sheet.proofs.Parts.{drop-take}
 use Rattle.output.specs.declared.Written.{Written}
 use Rattle.output.specs.declared.Written.TheVariants.{Bytes, Last}
-use Rattle.output.specs.declared.Next.{Next}
-use Rattle.output.specs.declared.Next.TheVariants.{Piece, End}
 use Rattle.output.specs.Limits.{most_jobs, piece_jobs, piece_lines, opening_bytes, piece_bytes}
 use Rattle.output.specs.Output.{goes_on, judged_of, opening_text, jobs_text, output_of}
 use Rattle.output.specs.Calls.{put, opening_of, read_lines, piece_of}
@@ -46,16 +45,16 @@ piece-written sheet out room n lines = rw (le-ltb (length out) piece_bytes room)
 -- ---- what comes after a piece: nothing where it was short or where all jobs that are read are done, else the next one
 
 module _ (n size : ℕ) where
-  pub ends_short : size < piece_lines → after_piece true n size ≡ End
+  pub ends_short : size < piece_lines → after_piece true n size ≡ None
   unfolding after_piece
   ends_short short = rw (lt-ltb size piece_lines short)
 
   module _ (full : piece_lines ≤ size) where
-    pub ends_last : most_jobs < n + piece_jobs → after_piece true n size ≡ End
+    pub ends_last : most_jobs < n + piece_jobs → after_piece true n size ≡ None
     unfolding after_piece
     ends_last past = rw (le-ltb size piece_lines full, lt-ltb most_jobs (n + piece_jobs) past)
 
-    pub goes_on-next : n + piece_jobs ≤ most_jobs → after_piece true n size ≡ Piece (n + piece_jobs)
+    pub goes_on-next : n + piece_jobs ≤ most_jobs → after_piece true n size ≡ Some (n + piece_jobs)
     unfolding after_piece
     goes_on-next more = rw (le-ltb size piece_lines full, le-ltb most_jobs (n + piece_jobs) more)
 
@@ -67,18 +66,18 @@ onward written n size =
     (λ e. let more = ltb-false most_jobs (n + piece_jobs) ((or_false_iff (not written || ltb size piece_lines) _).0 e).1 in (omega arith, more))
 
 -- so a measure of what is left falls from piece to piece: the jobs from the piece's first on, and one, so that there is less left at the end
-abbrev pub jobs_left : Next → ℕ
-jobs_left (Piece n) = suc (suc most_jobs - n)
-jobs_left End = 0
+abbrev pub jobs_left : Option ℕ → ℕ
+jobs_left (Some n) = suc (suc most_jobs - n)
+jobs_left None = 0
 
-pub fewer_left : (n : ℕ) (next : Next) → Onward n next → jobs_left next < jobs_left (Piece n)
-fewer_left n (Piece m) h = omega arith
-fewer_left n End h = omega arith
+pub fewer_left : (n : ℕ) (next : Option ℕ) → Onward n next → jobs_left next < jobs_left (Some n)
+fewer_left n (Some m) h = omega arith
+fewer_left n None h = omega arith
 
 -- ---- from piece to piece
 
 module _ (sheet out : List ℕ) where
-  text_end : (most : ℕ) (jobs : List ℕ) → text_from sheet out most End jobs ≡ []
+  text_end : (most : ℕ) (jobs : List ℕ) → text_from sheet out most None jobs ≡ []
   unfolding text_from
   text_end zero jobs = refl
   text_end (suc most) jobs = refl
@@ -89,12 +88,12 @@ module _ (sheet out : List ℕ) where
 
   -- no job is left after a piece that ends the text
   none_left : (n : ℕ) (jobs : List ℕ) → left (n + piece_jobs) (drop piece_lines jobs) ≡ [] → (most : ℕ)
-      → text_from sheet out most End (drop piece_lines jobs) ≡ jobs_text sheet (n + piece_jobs) (left (n + piece_jobs) (drop piece_lines jobs))
+      → text_from sheet out most None (drop piece_lines jobs) ≡ jobs_text sheet (n + piece_jobs) (left (n + piece_jobs) (drop piece_lines jobs))
   none_left n jobs e most = text_end most (drop piece_lines jobs) ∙ rw e (sym (jobs_none sheet (n + piece_jobs)))
 
   -- what follows the piece from job n on, if what follows it from the next one on is known
   after_piece_lem : (most n : ℕ) (jobs : List ℕ)
-      → text_from sheet out most (Piece (n + piece_jobs)) (drop piece_lines jobs) ≡ jobs_text sheet (n + piece_jobs) (left (n + piece_jobs) (drop piece_lines jobs))
+      → text_from sheet out most (Some (n + piece_jobs)) (drop piece_lines jobs) ≡ jobs_text sheet (n + piece_jobs) (left (n + piece_jobs) (drop piece_lines jobs))
       → text_from sheet out most (after_piece true n (length (take piece_lines jobs))) (drop piece_lines jobs)
       ≡ jobs_text sheet (n + piece_jobs) (left (n + piece_jobs) (drop piece_lines jobs))
   after_piece_lem most n jobs next =
@@ -127,7 +126,7 @@ module _ (sheet out : List ℕ) where
         (jobs_split sheet n piece_jobs (left n jobs))
 
     -- so many pieces as reach the last job
-    pieces-from : (most n : ℕ) (jobs : List ℕ) → 1 ≤ n → suc most_jobs ≤ n + most * piece_jobs → text_from sheet out most (Piece n) jobs ≡ jobs_text sheet n (left n jobs)
+    pieces-from : (most n : ℕ) (jobs : List ℕ) → 1 ≤ n → suc most_jobs ≤ n + most * piece_jobs → text_from sheet out most (Some n) jobs ≡ jobs_text sheet n (left n jobs)
     unfolding text_from
     pieces-from zero n jobs h enough = let past : suc most_jobs - n ≡ 0 = omega arith in rw past (sym (jobs_none sheet n))
     pieces-from (suc most) n jobs h enough =

@@ -12,13 +12,6 @@ pub enum Written {
     Last(u32),
 }
 
-// What the program does next: the piece that begins with this job, or nothing more.
-#[derive(Clone, Copy)]
-pub enum Next {
-    Piece(u32),
-    End,
-}
-
 // What a sheet is judged to be: the reader's answer or the verdict, and h.
 #[derive(Clone, Copy)]
 pub struct Judged {

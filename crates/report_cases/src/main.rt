@@ -7,7 +7,7 @@ ghost use Rattle.std.specs.Counts.{IsPrefixLen};
 ghost use Rattle.output.specs.Program.{Onward};
 
 use cases::{Case, Input, at_most, data_of, next_case, number_at, read_input};
-use output::{Next, Report, Written};
+use output::{Report, Written};
 use sheet::Sheet;
 
 // The buffers that calls are lent.
@@ -112,7 +112,7 @@ fn print_piece<'a>(
     jobs: &'a [u8],
     first: u32,
     whole: bool,
-) -> Next
+) -> Option<u32>
     ensures { Onward first result }
 {
     let lines = lines_from(jobs, first);
@@ -124,11 +124,8 @@ fn print_piece<'a>(
 
 // The lines of the jobs, piece by piece.
 fn print_pieces<'a>(rt: &HostRuntime, sheet: &'a [u8], jobs: &'a [u8], whole: bool) {
-    let mut next = Next::Piece(1);
-    loop {
-        let Next::Piece(first) = next else {
-            return;
-        };
+    let mut next = Some(1);
+    while let Some(first) = next {
         next = print_piece(rt, sheet, jobs, first, whole);
     }
 }

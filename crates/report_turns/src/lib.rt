@@ -5,7 +5,7 @@
 ghost use Rattle.std.specs.Prelude.{◌≡◌, take};
 ghost use Rattle.output.specs.Program.{written_part, after_opening, after_piece};
 
-use output::{Next, Report, Written};
+use output::{Report, Written};
 
 // The job after which no further piece begins.
 const LAST_PIECE: u32 = (Report::MOST_JOBS - Report::PIECE_JOBS) as u32;
@@ -34,32 +34,32 @@ pub fn written_part(written: Written, out: &[u8]) -> &[u8]
 }
 
 // After the first line, if all of it could be written: the first piece, unless nothing is to follow.
-pub fn after_opening(written: Written, is_written: bool) -> Next
+pub fn after_opening(written: Written, is_written: bool) -> Option<u32>
     ensures { result ≡ after_opening is_written written }
 {
     if !is_written {
-        return Next::End;
+        return None;
     }
     match written {
-        Written::Short => Next::End,
-        Written::Bytes(_) => Next::Piece(1),
-        Written::Last(_) => Next::End,
+        Written::Short => None,
+        Written::Bytes(_) => Some(1),
+        Written::Last(_) => None,
     }
 }
 
 // After the piece from job `first` on, of which `size` bytes could be read: the next one, if the text could be written, the piece was full, and not all jobs
 // that are read are done.
-pub fn after_piece(first: u32, size: usize, is_written: bool) -> Next
+pub fn after_piece(first: u32, size: usize, is_written: bool) -> Option<u32>
     ensures { result ≡ after_piece is_written first size }
 {
     if !is_written {
-        return Next::End;
+        return None;
     }
     if size < Report::PIECE_LINES {
-        return Next::End;
+        return None;
     }
     if LAST_PIECE < first {
-        return Next::End;
+        return None;
     }
-    Next::Piece(first + Report::PIECE_JOBS as u32)
+    Some(first + Report::PIECE_JOBS as u32)
 }

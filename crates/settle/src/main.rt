@@ -6,7 +6,7 @@
 ghost use Rattle.std.specs.Prelude.{◌≡◌, length};
 ghost use Rattle.output.specs.Program.{Onward};
 
-use output::{Next, Report};
+use output::Report;
 use sheet::Sheet;
 use std::fs::File;
 
@@ -39,7 +39,7 @@ fn piece_buffer() -> [u8; Report::PIECE_BYTES]
 }
 
 // Writes the first line.
-fn write_opening(rt: &HostRuntime, sheet: &[u8]) -> Next {
+fn write_opening(rt: &HostRuntime, sheet: &[u8]) -> Option<u32> {
     let mut out = opening_buffer();
     let written = report_opening::opening(sheet, &mut out);
     let is_written = files::write(
@@ -67,7 +67,7 @@ fn write_lines<'a>(rt: &HostRuntime, sheet: &'a [u8], first: u32, lines: &'a [u8
 }
 
 // Reads the lines of a piece of the jobs and writes its text.
-fn write_piece(rt: &HostRuntime, sheet: &[u8], jobs: &mut Option<File>, first: u32) -> Next
+fn write_piece(rt: &HostRuntime, sheet: &[u8], jobs: &mut Option<File>, first: u32) -> Option<u32>
     ensures { Onward first result }
 {
     let mut lines = lines_buffer();
@@ -77,12 +77,9 @@ fn write_piece(rt: &HostRuntime, sheet: &[u8], jobs: &mut Option<File>, first: u
 }
 
 // Writes the text of the jobs, piece by piece.
-fn write_jobs(rt: &HostRuntime, sheet: &[u8], jobs: &mut Option<File>, start: Next) {
+fn write_jobs(rt: &HostRuntime, sheet: &[u8], jobs: &mut Option<File>, start: Option<u32>) {
     let mut next = start;
-    loop {
-        let Next::Piece(first) = next else {
-            return;
-        };
+    while let Some(first) = next {
         next = write_piece(rt, sheet, jobs, first);
     }
 }
@@ -93,9 +90,9 @@ fn main(rt: HostRuntime) {
     let size = files::read(&rt, &mut net, b"settle: net", &mut buffer);
     drop(net);
     let next = write_opening(&rt, &buffer[..size]);
-    let Next::Piece(_) = next else {
+    if next.is_none() {
         return;
-    };
+    }
     let mut jobs = files::open(&rt, b"jobs", b"settle: jobs");
     write_jobs(&rt, &buffer[..size], &mut jobs, next);
     drop(jobs);
