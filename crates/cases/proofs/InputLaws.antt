@@ -1,14 +1,15 @@
 -- A part is there or not, and a field at a place reads as a number or not. The next case stands later, and no later than the end.
-use Prim.Native.Nat.{ℕ, ◌+◌, ◌-◌, ◌≤◌, ◌<◌}
+use Prim.Native.Nat.{ℕ, ◌+◌, ◌-◌, ◌≤◌, ◌<◌, min}
 use native.Mathlib.Omega.{arith}
 use mathlib.Core.Path.{◌≡◌}
+use mathlib.Core.Bool.{cond}
 use mathlib.Core.List.{List, []}
 use mathlib.Core.Option.{Option}
 use lib.Dec.{ltb}
 use lib.ListN.{length, take, drop}
-use borrow.Author.Tests.{le-leb, lt-leb, le-ltb, ltb-true}
-use Rattle.ternary.proofs.Tests.{cond_by}
+use borrow.Author.Tests.{le-leb, lt-leb, le-ltb, ltb-true, ltb-false}
 use Rattle.std.specs.Prelude.{Some, None}
+use Rattle.ternary.proofs.Tests.{by_test, cond_by}
 use Rattle.sheet.specs.Limits.{most_columns}
 use Rattle.sheet.specs.Field.{read_field, field_answer}
 use Rattle.sheet.proofs.LineSteps.{number_of, refused_of, part}
@@ -22,6 +23,10 @@ module _ (b : List ℕ) (at n : ℕ) where
   pub part_there : at + n ≤ length b → take (at + n - at) (drop at b) ≡ part_of b at n
   unfolding part_of
   part_there h = rw (le-leb (at + n) (length b) h) (part b at n)
+
+-- the lesser of two numbers, by a test
+pub min_test : (a b : ℕ) → min a b ≡ cond (ltb a b) a b
+min_test a b = by_test (ltb a b) (λ t. rw t (omega (arith, ltb-true a b t))) (λ t. rw t (omega (arith, ltb-false a b t)))
 
 -- the field at a place, once it is read
 abbrev field : List ℕ → ℕ → Option ℕ

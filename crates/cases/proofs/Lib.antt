@@ -1,1 +1,3 @@
 pub mod InputLaws
+pub mod TurnLaws
+pub mod ColumnLaws

@@ -1,1 +1,3 @@
 pub mod Input
+pub mod Turns
+pub mod Columns

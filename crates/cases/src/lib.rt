@@ -2,13 +2,18 @@
 //! it, or a note that is printed as it stands. Numbers of their answers have a field each.
 #![tactic(auto)]
 
-ghost use Rattle.std.specs.Prelude.{◌≡◌};
+ghost use Rattle.std.specs.Prelude.{◌≡◌, min, length};
+ghost use Rattle.std.specs.Counts.{IsPrefixLen};
 ghost use Rattle.sheet.specs.Line.{write_number};
 ghost use Rattle.cases.specs.Input.{part_of, number_at, data_of, next_of};
 
+mod answers;
+mod runs;
 mod streams;
 
 use sheet::Sheet;
+pub use answers::{write_columns, write_result};
+pub use runs::run_cases;
 pub use streams::{at_most, read_input};
 
 #[derive(Clone, Copy)]
@@ -24,6 +29,9 @@ impl Input {
 pub struct Case;
 
 impl Case {
+    // The kind of a note, whose data are printed as they stand.
+    pub const NOTE: u8 = b'#';
+
     pub const FIRST: usize = 1;
 
     pub const SECOND: usize = Case::FIRST + Sheet::MOST_COLUMNS;
@@ -64,6 +72,14 @@ pub fn number_at(input: &[u8], at: usize) -> u32
     }
 }
 
+// The size that the number at a place gives for a lent buffer, at most all of it.
+pub fn size_at(input: &[u8], at: usize, buffer: &[u8]) -> usize
+    ensures in_bounds { IsPrefixLen result buffer.now }
+    ensures value { result ≡ min (number_at input.now at) (length buffer.now) }
+{
+    at_most(number_at(input, at) as usize, buffer)
+}
+
 // The data of the case at a place.
 pub fn data_of(input: &[u8], at: usize) -> &[u8]
     ensures { result.now ≡ data_of input.now at }
@@ -85,10 +101,7 @@ pub fn next_case(input: &[u8], at: usize) -> usize
     }
     let size = number_at(input, at + Case::DATA_SIZE) as usize;
     let next = at + Case::DATA + size;
-    if next < end {
-        return next;
-    }
-    end
+    next.min(end)
 }
 
 // A number in the columns of a field, for an answer.

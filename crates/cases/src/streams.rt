@@ -12,7 +12,7 @@ fn read_some(rt: &HostRuntime, buffer: &mut [u8]) -> usize
     input.read(buffer).unwrap_or(0)
 }
 
-// Reads standard input until the buffer is full, the input ends or a read fails, and answers how many bytes there are.
+// A loop of its own: `read_exact` does not tell how many bytes a short input has. Reads standard input until the buffer is full, the input ends or a read fails, and answers how many bytes there are.
 pub fn read_input(rt: &HostRuntime, buffer: &mut [u8]) -> usize
     ensures { IsPrefixLen result buffer.new }
 {
@@ -32,5 +32,5 @@ pub fn at_most(n: usize, buffer: &[u8]) -> usize
     ensures in_bounds { IsPrefixLen result buffer.now }
     ensures value { result ≡ min n (length buffer.now) }
 {
-    if n < buffer.len() { n } else { buffer.len() }
+    n.min(buffer.len())
 }

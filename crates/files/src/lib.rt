@@ -1,7 +1,8 @@
-//! The files of a program. What cannot be opened, read or written is told on standard error; what cannot be opened or read counts as the end of the file.
+//! The files of a program, and the buffers that they are read to. What cannot be opened, read or written is told on standard error; what cannot be opened or
+//! read counts as the end of the file.
 #![tactic(auto)]
 
-ghost use Rattle.std.specs.Prelude.{◌≤◌, ◌≡◌, true, false, length, take, OnOk};
+ghost use Rattle.std.specs.Prelude.{◌≤◌, ◌≡◌, true, false, length, take, replicate, OnOk};
 ghost use Rattle.std.specs.Counts.{IsPrefixLen};
 ghost use Rattle.std.specs.Io.KnownBytes.{Appends, Consumes, ReadConsumes};
 ghost use Rattle.files.specs.Reads.{Opened, Within, descriptor, left_of};
@@ -22,6 +23,14 @@ const NO_TEXT: i32 = 84;
 
 // Room for the words that an error is printed with.
 const WORDS_BYTES: usize = 128;
+
+// A buffer of so many bytes, each of them `byte`.
+pub fn buffer<const N: usize>(byte: u8) -> [u8; N]
+    ensures size { N ≡ length result }
+    ensures value { result ≡ replicate N byte }
+{
+    [byte; N]
+}
 
 // The text of an error up to the number that std prints behind the system's words, as ` (os error 2)`.
 fn without_number(words: &[u8]) -> &[u8] {
