@@ -151,6 +151,14 @@ pub fn read<F: Read>(
     }
 }
 
+// Reads a file of the folder that the program is run in, as far as the buffer has room; no bytes where it cannot be opened.
+pub fn read_named(rt: &HostRuntime, name: &[u8], told: &[u8], buffer: &mut [u8]) -> usize
+    ensures { IsPrefixLen result buffer.new }
+{
+    let mut file = open(rt, name, told);
+    read(rt, &mut file, told, buffer)
+}
+
 // Writes all of a text, or stops at the first write that takes nothing or fails.
 fn write_whole<W: Write>(out: &mut W, text: &[u8]) -> io::Result<()>
     ensures { OnOk result (Appends (W.contents out.old) (W.contents out.new) text.now) }

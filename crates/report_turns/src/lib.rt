@@ -5,7 +5,10 @@
 ghost use Rattle.std.specs.Prelude.{◌≡◌, take};
 ghost use Rattle.output.specs.Program.{written_part, after_opening, after_piece};
 
+mod texts;
+
 use output::{Report, Written};
+pub use texts::write_text;
 
 // The job after which no further piece begins.
 const LAST_PIECE: u32 = (Report::MOST_JOBS - Report::PIECE_JOBS) as u32;

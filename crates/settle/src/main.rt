@@ -3,7 +3,6 @@
 //! and the writing.
 #![tactic(auto)]
 
-ghost use Rattle.std.specs.Prelude.{◌≡◌, length};
 ghost use Rattle.output.specs.Program.{Onward};
 
 use output::Report;
@@ -13,64 +12,40 @@ use std::fs::File;
 // One byte more than a sheet may have, so that a longer file is still refused for its length.
 const SHEET_BYTES: usize = Sheet::MOST_BYTES + 1;
 
-// The buffers. Each clause tells the length, which lending a part needs.
-fn sheet_buffer() -> [u8; SHEET_BYTES]
-    ensures { SHEET_BYTES ≡ length result }
-{
-    [0; SHEET_BYTES]
-}
-
-fn lines_buffer() -> [u8; Report::PIECE_LINES]
-    ensures { Report.PIECE_LINES ≡ length result }
-{
-    [0; Report::PIECE_LINES]
-}
-
-fn opening_buffer() -> [u8; Report::OPENING_BYTES]
-    ensures { Report.OPENING_BYTES ≡ length result }
-{
-    [0; Report::OPENING_BYTES]
-}
-
-fn piece_buffer() -> [u8; Report::PIECE_BYTES]
-    ensures { Report.PIECE_BYTES ≡ length result }
-{
-    [0; Report::PIECE_BYTES]
-}
-
 // Writes the first line.
 fn write_opening(rt: &HostRuntime, sheet: &[u8]) -> Option<u32> {
-    let mut out = opening_buffer();
-    let written = report_opening::opening(sheet, &mut out);
-    let is_written = files::write(
+    let mut out: [u8; Report::OPENING_BYTES] = files::buffer(0);
+    let (written, is_written) = report_turns::write_text(
         rt,
         &mut rt.stdout(),
         b"settle: output",
-        report_turns::written_part(written, &out),
+        &mut out,
+        |out| report_opening::opening(sheet, out),
     );
     report_turns::after_opening(written, is_written)
 }
 
 // Writes the text of a piece of the jobs. Where there are no lines there is none, and no buffer is made for it.
 fn write_lines<'a>(rt: &HostRuntime, sheet: &'a [u8], first: u32, lines: &'a [u8]) -> bool {
-    if lines.len() == 0 {
+    if lines.is_empty() {
         return true;
     }
-    let mut out = piece_buffer();
-    let written = report_pieces::piece(sheet, first, lines, &mut out);
-    files::write(
+    let mut out: [u8; Report::PIECE_BYTES] = files::buffer(0);
+    let (_, is_written) = report_turns::write_text(
         rt,
         &mut rt.stdout(),
         b"settle: output",
-        report_turns::written_part(written, &out),
-    )
+        &mut out,
+        |out| report_pieces::piece(sheet, first, lines, out),
+    );
+    is_written
 }
 
 // Reads the lines of a piece of the jobs and writes its text.
 fn write_piece(rt: &HostRuntime, sheet: &[u8], jobs: &mut Option<File>, first: u32) -> Option<u32>
     ensures { Onward first result }
 {
-    let mut lines = lines_buffer();
+    let mut lines: [u8; Report::PIECE_LINES] = files::buffer(0);
     let size = files::read(rt, jobs, b"settle: jobs", &mut lines);
     let is_written = write_lines(rt, sheet, first, &lines[..size]);
     report_turns::after_piece(first, size, is_written)
@@ -85,10 +60,8 @@ fn write_jobs(rt: &HostRuntime, sheet: &[u8], jobs: &mut Option<File>, start: Op
 }
 
 fn main(rt: HostRuntime) {
-    let mut buffer = sheet_buffer();
-    let mut net = files::open(&rt, b"net", b"settle: net");
-    let size = files::read(&rt, &mut net, b"settle: net", &mut buffer);
-    drop(net);
+    let mut buffer: [u8; SHEET_BYTES] = files::buffer(0);
+    let size = files::read_named(&rt, b"net", b"settle: net", &mut buffer);
     let next = write_opening(&rt, &buffer[..size]);
     if next.is_none() {
         return;
