@@ -2,12 +2,14 @@
 use Prim.Native.Nat.{ℕ, zero, suc, ◌-◌, ◌≤◌, ◌<◌}
 use native.Mathlib.Omega.{arith}
 use mathlib.Core.Path.{◌≡◌, refl, sym, ap, ◌∙◌}
-use mathlib.Core.Bool.{Bool, true, false, cond}
+use mathlib.Core.Bool.{cond}
 use mathlib.Core.Logic.{◌≢◌}
 use mathlib.Core.List.{List, [], ◌∷◌}
 use lib.Dec.{ltb, eqb}
 use lib.ListN.{length}
 use borrow.Author.Tests.{lt-ltb, le-ltb, ltb-true, ltb-false, eq-eqb, ne_eqb}
+use Rattle.std.specs.List.{All}
+use Rattle.std.proofs.lemmas.List.Elements.{All-nil, All-cons}
 use Rattle.ternary.proofs.Tests.{by_test}
 use Rattle.cases.specs.Input.{next_of}
 use Rattle.cases.specs.Turns.{note, kind_at, brought, turns_from, turns}
@@ -58,12 +60,18 @@ module _ (b : List ℕ) (brings : ℕ) where
       ∙ ap (step at (brought b brings at from))
       (turns_same n (length b - next_of b at) (next_of b at) (brought b brings at from) (omega arith) (omega arith))
 
-  module _ (at from : ℕ) (h : at < length b) where
-    pub turn_note : kind_at b at ≡ note
-        → turns_from b brings (length b - at) at from ≡ turns_from b brings (length b - next_of b at) (next_of b at) (brought b brings at from)
-    turn_note e = turn (length b - at) at from refl h ∙ rw (eq-eqb (kind_at b at) note e)
+  -- what holds of the cases that are left, by the case at a place
+  module _ (P : ℕ × ℕ → Type 0) where
+    pub all_end : (most at from : ℕ) → length b ≤ at → All P (turns_from b brings most at from)
+    all_end most at from h = rw (turns_end most at from h) (All-nil P)
 
-    pub turn_answer : kind_at b at ≢ note
-        → turns_from b brings (length b - at) at from
-        ≡ (at , brought b brings at from) ∷ turns_from b brings (length b - next_of b at) (next_of b at) (brought b brings at from)
-    turn_answer e = turn (length b - at) at from refl h ∙ rw (ne_eqb (kind_at b at) note e)
+    module _ (at from next last : ℕ) (h : at < length b) (goes : next ≡ next_of b at) (brought_is : last ≡ brought b brings at from)
+        (rest : All P (turns_from b brings (length b - next) next last)) where
+      now : All P (turns_from b brings (length b - next_of b at) (next_of b at) (brought b brings at from))
+      now = rw (goes, brought_is) at rest
+
+      pub all_note : kind_at b at ≡ note → All P (turns_from b brings (length b - at) at from)
+      all_note e = rw (turn (length b - at) at from refl h, eq-eqb (kind_at b at) note e) now
+
+      pub all_answer : kind_at b at ≢ note → P (at , last) → All P (turns_from b brings (length b - at) at from)
+      all_answer e p = rw (turn (length b - at) at from refl h, ne_eqb (kind_at b at) note e) (All-cons P (at , brought b brings at from) _ (rw brought_is at p) now)

@@ -12,7 +12,7 @@ mod runs;
 mod streams;
 
 use sheet::Sheet;
-pub use answers::{write_columns, write_result};
+pub use answers::{write_columns, write_counted, write_place, write_result};
 pub use runs::run_cases;
 pub use streams::{at_most, read_input};
 

@@ -1,6 +1,6 @@
 // The cases of the input in turn.
 ghost use Rattle.std.specs.Prelude.{ℕ, ◌<◌, ◌≡◌, length};
-ghost use Rattle.std.specs.List.{FoldsTo};
+ghost use Rattle.std.specs.List.{All};
 ghost use Rattle.cases.specs.Turns.{brought, turns};
 
 use super::{Case, data_of, next_case};
@@ -15,14 +15,14 @@ fn brought(cases: &[u8], brings: u8, at: usize, from: usize) -> usize
 
 // Calls `answer` for each case in turn, with its place and with that of the case of kind `brings` that stood last, itself included; 0 before there is one. A
 // note is printed as it stands, which ends the line of the case before it.
-pub fn run_cases<F: FnMut(usize, usize)>(
+pub fn run_cases<F: Fn(usize, usize)>(
     rt: &HostRuntime,
     cases: &[u8],
     brings: u8,
-    mut answer: F,
+    answer: F,
 )
-    requires { (state : F) (at from : ℕ) → at < length cases.now → F.pre state at from }
-    ensures { (last : F) × FoldsTo (λ p x q. F.step p x.0 x.1 tt q) answer (turns cases.now brings) last }
+    requires { (at from : ℕ) → at < length cases.now → F.pre answer at from }
+    ensures { All (λ x. F.post answer x.0 x.1 tt) (turns cases.now brings) }
 {
     let mut at: usize = 0;
     let mut from: usize = 0;

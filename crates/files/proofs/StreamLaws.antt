@@ -1,5 +1,5 @@
 -- What is read or written turn by turn: a read that failed took nothing, and each part stands behind those before.
-use Rattle.std.proofs.Common.{◌≡◌, ℕ, ◌+◌, ◌-◌, ◌≤◌, List, [], ◌++◌, Result, Ok, Err, Some, None, Bool, true, false, sym, ap, ◌∙◌, subst, arith, length, take, slice_range, le_refl, drop_at, length-take-le, length-drop, drop, take_all}
+use Rattle.std.proofs.Common.{◌≡◌, ℕ, ◌+◌, ◌-◌, ◌≤◌, List, [], ◌++◌, Result, Ok, Err, Some, None, Bool, true, false, sym, ap, ◌∙◌, subst, arith, length, take, slice_range, le_refl, drop_at, length-take-le, length-drop, drop, take_all, take-append-drop}
 use Rattle.std.proofs.lemmas.Slice.{take-put_mid_below}
 use Rattle.std.specs.Prelude.{OnOk, Option}
 use Rattle.std.specs.Io.KnownBytes.{Keeps, Appends, Consumes, ReadConsumes}
@@ -43,12 +43,11 @@ read_on a b c done more xs ys within fits p q =
     let joined = take_split done (done + more) xs new (omega arith) (take-put_mid_below _ _ _ _ _ (le_refl _) within) in
     subst (Consumes a c) (ap (λ l. take done xs ++ l) (sym part) ∙ joined) (Consumes-trans a b c _ _ p q)
 
--- ---- what was written so far
+-- ---- what is written
 
--- one write more: its bytes are those of the text behind the ones before
-pub write_on : (a b c : Option (List ℕ)) (done more : ℕ) (xs : List ℕ) → Appends a b (take done xs) → Appends b c (take more (take (length xs - done) (drop done xs)))
-    → Appends a c (take (done + more) xs)
-write_on a b c done more xs p q =
-    let rest : take (length xs - done) (drop done xs) ≡ drop done xs =
-    take_all (length xs - done) (drop done xs) (omega (arith, length-drop done xs)) in
-    subst (Appends a c) (ap (λ l. take done xs ++ take more l) rest ∙ sym (take-add done more xs)) (Appends-trans a b c _ _ p q)
+-- one write more took the front of what was left: with the rest that is all
+pub write_on : (a b c : Option (List ℕ)) (n : ℕ) (xs : List ℕ) → Appends a b (take n xs) → Appends b c (take (length xs - n) (drop n xs)) → Appends a c xs
+write_on a b c n xs p q =
+    let rest : take (length xs - n) (drop n xs) ≡ drop n xs =
+    take_all (length xs - n) (drop n xs) (omega (arith, length-drop n xs)) in
+    subst (Appends a c) (ap (λ l. take n xs ++ l) rest ∙ take-append-drop n xs) (Appends-trans a b c _ _ p q)

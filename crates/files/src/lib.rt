@@ -119,7 +119,8 @@ fn read_more<F: Read>(rt: &HostRuntime, file: &mut F, told: &[u8], buffer: &mut 
     }
 }
 
-// Reads until the buffer is full, the file ends or a read fails.
+// Reads until the buffer is full, the file ends or a read fails. Not `read_exact`, which does not tell how many bytes a shorter file has, and tries an
+// interrupted read more often.
 fn read_file<F: Read>(rt: &HostRuntime, file: &mut F, told: &[u8], buffer: &mut [u8]) -> usize
     ensures in_bounds { IsPrefixLen result buffer.new }
     ensures bytes { Consumes (F.remaining file.old) (F.remaining file.new) (take result buffer.new) }
@@ -159,17 +160,18 @@ pub fn read_named(rt: &HostRuntime, name: &[u8], told: &[u8], buffer: &mut [u8])
     read(rt, &mut file, told, buffer)
 }
 
-// Writes all of a text, or stops at the first write that takes nothing or fails.
+// Writes all of a text, or stops at the first write that takes nothing or fails. Not `write_all`, which tries an interrupted write again and has other words
+// for one that takes nothing: what is told may not change.
 fn write_whole<W: Write>(out: &mut W, text: &[u8]) -> io::Result<()>
     ensures { OnOk result (Appends (W.contents out.old) (W.contents out.new) text.now) }
 {
-    let mut done: usize = 0;
-    while done < text.len() {
-        let count = out.write(&text[done..])?;
+    let mut rest = text;
+    while !rest.is_empty() {
+        let count = out.write(rest)?;
         if count == 0 {
             return Err(Error::from_raw_os_error(NO_ERROR));
         }
-        done += count;
+        rest = &rest[count..];
     }
     Ok(())
 }
@@ -179,7 +181,7 @@ pub fn write<W: Write>(rt: &HostRuntime, out: &mut W, told: &[u8], text: &[u8]) 
     ensures nothing { length text.now ≡ 0 → result ≡ true }
     ensures bytes { result ≡ true → Appends (W.contents out.old) (W.contents out.new) text.now }
 {
-    if text.len() == 0 {
+    if text.is_empty() {
         return true;
     }
     match write_whole(out, text) {

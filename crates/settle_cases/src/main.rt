@@ -3,11 +3,9 @@
 #![tactic(auto)]
 
 ghost use Rattle.std.specs.Prelude.{◌<◌, ◌≡◌, length};
-ghost use Rattle.std.specs.Counts.{IsPrefixLen};
 
-use cases::{Case, Input, at_most, data_of, next_case, number_at, number_text, read_input};
+use cases::{Case, Input, data_of, number_at, read_input, run_cases, size_at, write_columns, write_place};
 use net::Net;
-use sheet::Answer;
 use ternary::Signal;
 
 // The buffers that calls are lent.
@@ -29,43 +27,6 @@ impl Lent {
     const MOST_ANSWERS: usize = Lent::MOST_JOBS * 3;
 }
 
-// The buffer for the input, and those before a call. Each clause tells the length, which lending a part needs.
-fn input_buffer() -> [u8; Input::MOST_BYTES]
-    ensures { Input.MOST_BYTES ≡ length result }
-{
-    [0; Input::MOST_BYTES]
-}
-
-fn signal_buffer() -> [u8; Lent::MOST_SIGNALS]
-    ensures { Lent.MOST_SIGNALS ≡ length result }
-{
-    [Lent::UNTOUCHED; Lent::MOST_SIGNALS]
-}
-
-fn result_buffer() -> [u8; Lent::MOST_RESULTS]
-    ensures { Lent.MOST_RESULTS ≡ length result }
-{
-    [Lent::UNTOUCHED; Lent::MOST_RESULTS]
-}
-
-fn answer_buffer() -> [u8; Lent::MOST_ANSWERS]
-    ensures { Lent.MOST_ANSWERS ≡ length result }
-{
-    [Lent::UNTOUCHED; Lent::MOST_ANSWERS]
-}
-
-// A number in the columns of a field.
-fn print_column(rt: &HostRuntime, n: u64) {
-    let text = number_text(n);
-    let _ = rt.write_all(&text);
-}
-
-// A number and its place.
-fn print_place(rt: &HostRuntime, answer: Answer) {
-    print_column(rt, answer.number as u64);
-    print_column(rt, answer.place as u64);
-}
-
 // A signal as a character; any other byte as its number.
 fn print_signal(rt: &HostRuntime, byte: u8) {
     if byte == Signal::X {
@@ -75,18 +36,17 @@ fn print_signal(rt: &HostRuntime, byte: u8) {
     }
 }
 
-// A byte of a buffer, as a signal or as a number in four columns.
-fn print_byte(rt: &HostRuntime, byte: u8, in_columns: bool) {
-    if in_columns {
-        print_column(rt, byte as u64);
-    } else {
-        print_signal(rt, byte);
+// The bytes of a buffer, as signals.
+fn print_signals(rt: &HostRuntime, buffer: &[u8]) {
+    for byte in buffer {
+        print_signal(rt, *byte);
     }
 }
 
-fn print_bytes(rt: &HostRuntime, buffer: &[u8], in_columns: bool) {
-    for i in 0..buffer.len() {
-        print_byte(rt, buffer[i], in_columns);
+// The bytes of a buffer, in the columns of a field each.
+fn print_numbers(rt: &HostRuntime, buffer: &[u8]) {
+    for byte in buffer {
+        let _ = write_columns(&mut rt.stdout(), &[*byte as u64]);
     }
 }
 
@@ -101,30 +61,26 @@ fn print_settling(
     t: &mut [u8],
 ) {
     let answer = settling::settle(net, old, new, start, r, t);
-    print_column(rt, answer.number as u64);
-    print_column(rt, answer.place as u64);
-    print_column(rt, answer.first_steps as u64);
-    print_column(rt, answer.second_steps as u64);
+    let numbers = [
+        answer.number as u64,
+        answer.place as u64,
+        answer.first_steps as u64,
+        answer.second_steps as u64,
+    ];
+    let _ = write_columns(&mut rt.stdout(), &numbers);
     let _ = rt.write_all(b" ");
-    print_bytes(rt, r, false);
+    print_signals(rt, r);
     let _ = rt.write_all(b" ");
-    print_bytes(rt, t, false);
+    print_signals(rt, t);
 }
 
 // A batch: number, place, and both buffers whole.
 fn print_batch(rt: &HostRuntime, net: Net, jobs: &[u8], results: &mut [u8], answers: &mut [u8]) {
-    print_place(rt, settling::batch(net, jobs, results, answers));
+    let _ = write_place(&mut rt.stdout(), settling::batch(net, jobs, results, answers));
     let _ = rt.write_all(b" ");
-    print_bytes(rt, results, false);
+    print_signals(rt, results);
     let _ = rt.write_all(b" ");
-    print_bytes(rt, answers, true);
-}
-
-// The size that the case gives for a lent buffer, at most all of it.
-fn size_at(cases: &[u8], at: usize, buffer: &[u8]) -> usize
-    ensures { IsPrefixLen result buffer.now }
-{
-    at_most(number_at(cases, at) as usize, buffer)
+    print_numbers(rt, answers);
 }
 
 // The settling that the case at a place asks for.
@@ -134,8 +90,8 @@ fn run_settling(rt: &HostRuntime, cases: &[u8], at: usize, net: Net)
     let old = number_at(cases, at + Case::FIRST);
     let new = number_at(cases, at + Case::SECOND);
     let start = number_at(cases, at + Case::THIRD);
-    let mut r = signal_buffer();
-    let mut t = signal_buffer();
+    let mut r: [u8; Lent::MOST_SIGNALS] = files::buffer(Lent::UNTOUCHED);
+    let mut t: [u8; Lent::MOST_SIGNALS] = files::buffer(Lent::UNTOUCHED);
     let r_size = size_at(cases, at + Case::FOURTH, &r);
     let t_size = size_at(cases, at + Case::FIFTH, &t);
     print_settling(rt, net, old, new, start, &mut r[..r_size], &mut t[..t_size]);
@@ -145,29 +101,17 @@ fn run_settling(rt: &HostRuntime, cases: &[u8], at: usize, net: Net)
 fn run_batch(rt: &HostRuntime, cases: &[u8], at: usize, net: Net)
     requires { at < length cases.now }
 {
-    let mut results = result_buffer();
-    let mut answers = answer_buffer();
+    let mut results: [u8; Lent::MOST_RESULTS] = files::buffer(Lent::UNTOUCHED);
+    let mut answers: [u8; Lent::MOST_ANSWERS] = files::buffer(Lent::UNTOUCHED);
     let results_size = size_at(cases, at + Case::FOURTH, &results);
     let answers_size = size_at(cases, at + Case::FIFTH, &answers);
     let jobs = data_of(cases, at);
+    let results = &mut results[..results_size];
+    let answers = &mut answers[..answers_size];
     if cases[at] == b'B' {
-        print_batch(
-            rt,
-            net,
-            jobs,
-            &mut results[..results_size],
-            &mut answers[..answers_size],
-        );
+        print_batch(rt, net, jobs, results, answers);
     } else {
-        print_place(
-            rt,
-            settling::batch(
-                net,
-                jobs,
-                &mut results[..results_size],
-                &mut answers[..answers_size],
-            ),
-        );
+        let _ = write_place(&mut rt.stdout(), settling::batch(net, jobs, results, answers));
     }
 }
 
@@ -177,37 +121,17 @@ fn print_answer(rt: &HostRuntime, cases: &[u8], at: usize, sheet: &[u8])
 {
     let reading = reader::read(sheet);
     match cases[at] {
-        b'N' => print_place(rt, reading.answer),
+        b'N' => {
+            let _ = write_place(&mut rt.stdout(), reading.answer);
+        }
         b'S' => run_settling(rt, cases, at, reading.net),
         _ => run_batch(rt, cases, at, reading.net),
     }
 }
 
-// Prints a note as it stands, which ends the line of the case before it; of any other case the answer, for the sheet of the case that brought one last.
-fn print_case(rt: &HostRuntime, cases: &[u8], at: usize, from: usize)
-    requires { at < length cases.now }
-{
-    if cases[at] == b'#' {
-        let _ = rt.write_all(data_of(cases, at));
-    } else {
-        print_answer(rt, cases, at, data_of(cases, from));
-    }
-}
-
-fn run_cases(rt: &HostRuntime, cases: &[u8]) {
-    let mut at: usize = 0;
-    let mut from: usize = 0;
-    while at < cases.len() {
-        if cases[at] == b'N' {
-            from = at;
-        }
-        print_case(rt, cases, at, from);
-        at = next_case(cases, at);
-    }
-}
-
 fn main(rt: HostRuntime) {
-    let mut buffer = input_buffer();
+    let mut buffer: [u8; Input::MOST_BYTES] = files::buffer(0);
     let n = read_input(&rt, &mut buffer);
-    run_cases(&rt, &buffer[..n]);
+    let cases = &buffer[..n];
+    run_cases(&rt, cases, b'N', |at, from| print_answer(&rt, cases, at, data_of(cases, from)));
 }

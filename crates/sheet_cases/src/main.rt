@@ -6,7 +6,7 @@
 ghost use Rattle.std.specs.Prelude.{◌<◌, ◌≡◌, length};
 ghost use Rattle.sheet.specs.Limits.{ReadColumns};
 
-use cases::{Case, Input, data_of, next_case, number_at, number_text, read_input};
+use cases::{Case, Input, data_of, number_at, read_input, run_cases, write_columns, write_place};
 use sheet::{Job, Reading, Sheet};
 
 // The buffer that a field is written to, and what it holds before.
@@ -14,30 +14,14 @@ const FIELD_BUFFER: usize = 12;
 
 const UNTOUCHED: u8 = b'?';
 
-// The buffer for the input. The clause tells its length, which lending a part needs.
-fn input_buffer() -> [u8; Input::MOST_BYTES]
-    ensures { Input.MOST_BYTES ≡ length result }
-{
-    [0; Input::MOST_BYTES]
-}
-
-fn field_buffer() -> [u8; FIELD_BUFFER]
-    ensures { FIELD_BUFFER ≡ length result }
-{
-    [UNTOUCHED; FIELD_BUFFER]
-}
-
-// A number in the columns of a field.
-fn print_column(rt: &HostRuntime, n: u64) {
-    let text = number_text(n);
-    let _ = rt.write_all(&text);
-}
+// The number of what is no job line.
+const NO_JOB: u64 = 46;
 
 // The buffer with a number in its first columns; untouched where it has not so many.
 fn field_in(n: u64, columns: usize) -> [u8; FIELD_BUFFER]
     ensures { FIELD_BUFFER ≡ length result }
 {
-    let mut text = field_buffer();
+    let mut text = files::buffer::<FIELD_BUFFER>(UNTOUCHED);
     if columns <= FIELD_BUFFER {
         fields::write_field(&mut text[..columns], n);
     }
@@ -52,40 +36,30 @@ fn print_field(rt: &HostRuntime, n: u64, columns: usize) {
 
 // A sheet: number, place, and whether the record is one.
 fn print_reading(rt: &HostRuntime, reading: Reading) {
-    let net = reading.net;
-    print_column(rt, reading.answer.number as u64);
-    print_column(rt, reading.answer.place as u64);
-    print_column(rt, if record::is_record(net) { 1 } else { 0 });
+    let out = &mut rt.stdout();
+    let _ = write_place(out, reading.answer);
+    let _ = write_columns(out, &[record::is_record(reading.net) as u64]);
 }
 
 // Bytes that are handed back: how many, and these.
 fn print_part(rt: &HostRuntime, part: &[u8]) {
-    print_column(rt, part.len() as u64);
+    let _ = write_columns(&mut rt.stdout(), &[part.len() as u64]);
     let _ = rt.write_all(part);
 }
 
 // One line of a sheet: number, and its bytes.
 fn print_line(rt: &HostRuntime, sheet: &[u8], n: usize) {
-    print_column(rt, lines::line_answer(sheet, n) as u64);
+    let _ = write_columns(&mut rt.stdout(), &[lines::line_answer(sheet, n) as u64]);
     print_part(rt, lines::line(sheet, n));
 }
 
 // A job line: 0 and its three numbers, or 46 and zeros.
 fn print_job(rt: &HostRuntime, bytes: &[u8]) {
-    match line_values::job(bytes) {
-        Some(Job { old, new, start }) => {
-            print_column(rt, 0);
-            print_column(rt, old as u64);
-            print_column(rt, new as u64);
-            print_column(rt, start as u64);
-        }
-        None => {
-            print_column(rt, 46);
-            print_column(rt, 0);
-            print_column(rt, 0);
-            print_column(rt, 0);
-        }
-    }
+    let numbers = match line_values::job(bytes) {
+        Some(Job { old, new, start }) => [0, old as u64, new as u64, start as u64],
+        None => [NO_JOB, 0, 0, 0],
+    };
+    let _ = write_columns(&mut rt.stdout(), &numbers);
 }
 
 // A job line of another width: its three numbers in a field of the buffer each, or 46.
@@ -98,7 +72,9 @@ fn print_job_in(rt: &HostRuntime, bytes: &[u8], columns: usize)
             print_field(rt, new as u64, columns);
             print_field(rt, start as u64, columns);
         }
-        None => print_column(rt, 46),
+        None => {
+            let _ = write_columns(&mut rt.stdout(), &[NO_JOB]);
+        }
     }
 }
 
@@ -116,18 +92,12 @@ fn columns_at(cases: &[u8], at: usize) -> usize
     columns
 }
 
-// A note, which ends the line of the case before it.
-fn print_note(rt: &HostRuntime, note: &[u8]) {
-    let _ = rt.write_all(note);
-}
-
 // The answer of the case at a place, by its kind.
 fn print_answer(rt: &HostRuntime, cases: &[u8], at: usize)
     requires { at < length cases.now }
 {
     let bytes = data_of(cases, at);
     match cases[at] {
-        b'#' => print_note(rt, bytes),
         b'S' => print_reading(rt, reader::read(bytes)),
         b's' => print_reading(
             rt,
@@ -152,16 +122,9 @@ fn print_answer(rt: &HostRuntime, cases: &[u8], at: usize)
     }
 }
 
-fn run_cases(rt: &HostRuntime, cases: &[u8]) {
-    let mut at: usize = 0;
-    while at < cases.len() {
-        print_answer(rt, cases, at);
-        at = next_case(cases, at);
-    }
-}
-
 fn main(rt: HostRuntime) {
-    let mut buffer = input_buffer();
+    let mut buffer: [u8; Input::MOST_BYTES] = files::buffer(0);
     let n = read_input(&rt, &mut buffer);
-    run_cases(&rt, &buffer[..n]);
+    let cases = &buffer[..n];
+    run_cases(&rt, cases, b'S', |at, _| print_answer(&rt, cases, at));
 }

@@ -1,7 +1,7 @@
--- The bytes that were written follow those before.
-use Rattle.std.proofs.Common.{rules}
+-- A write takes the front of the rest.
 use Rattle.files.proofs.StreamLaws.{write_on}
 use Rattle.files.proofs.write_whole.Goals as goal
 
-pub loop-done-preserved : goal.loop-done-preserved
-loop-done-preserved g c = (search rules, write_on _ _ _ _ _ _ c.loop-done.invariant.1 c.in_ok-count.ensures.bytes)
+pub loop-rest-preserved : goal.loop-rest-preserved
+loop-rest-preserved g c end left =
+    c.loop-rest.invariant end (write_on _ _ _ _ _ c.in_ok-count.ensures.bytes left)

@@ -1,11 +1,11 @@
--- What was written is the text's front; each turn writes more of it.
-use Rattle.std.proofs.Common.{◌≤◌, ◌-◌, length, take}
+-- Once the rest is written too, all of the text is. Each turn leaves less.
+use Rattle.std.proofs.Common.{length}
 use Rattle.std.specs.Io.KnownBytes.{Appends}
 use Rattle.files.proofs.write_whole.Given as goal
 
-abbrev pub invariant-loop-done : goal.invariant-loop-done
-invariant-loop-done g l =
-    (l.done ≤ length l.text) × Appends (g.W.Write.contents l.initial.out) (g.W.Write.contents l.out) (take l.done l.text)
+abbrev pub invariant-loop-rest : goal.invariant-loop-rest
+invariant-loop-rest g l =
+    (end : _) → Appends (g.W.Write.contents l.out) end l.rest → Appends (g.W.Write.contents l.initial.out) end l.text
 
-abbrev pub decreases-loop-done : goal.decreases-loop-done
-decreases-loop-done g l = length l.text - l.done
+abbrev pub decreases-loop-rest : goal.decreases-loop-rest
+decreases-loop-rest g l = length l.rest
