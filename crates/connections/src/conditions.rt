@@ -4,11 +4,10 @@ ghost use Rattle.ternary.specs.Bits.{digit};
 ghost use Rattle.net.specs.Limits.{most_signals, most_edges};
 ghost use Rattle.net.specs.Symbols.{decode};
 ghost use Rattle.net.specs.State.{admits, condition_of};
-ghost use Rattle.net.specs.Tables.{storage_flags};
 ghost use Rattle.lanes.specs.Lanes as lane-spec;
-ghost use Rattle.excitations.specs.Fit.{Fit};
-ghost use Rattle.excitations.specs.Conditions.{signal_places, symbol_at, usable_lanes};
+ghost use Rattle.excitations.specs.Conditions.{symbol_at, usable_lanes};
 
+use excitations::Wiring;
 use net::{Condition, Kind, Net, Symbol};
 
 // A symbol's value where its signal has the value `bit`.
@@ -74,24 +73,21 @@ fn choose_row<'a>(
 // 1 where a connection of a kind may use an edge, at each assignment of the signals of the component that the edge touches. The table comes as zeros.
 pub(crate) fn usable_lanes<'a, 'b>(
     on: &'a mut [u8; Net::EDGE_LANES],
-    net: Net,
-    storage: &'b [u8; Net::VERTEX_PLACES],
-    places: &'b [u8; Net::SYMBOL_PLACES],
-    columns: &'b [u8; Net::COLUMN_LANES],
+    wiring: &'b Wiring,
     kind: Kind,
 )
-    requires { Fit net × (storage.now ≡ storage_flags net) × (places.now ≡ signal_places net) × (columns.now ≡ lane-spec.columns) × (on.old ≡ replicate (most_edges * lane-spec.assignments) 0) }
-    ensures { on.new ≡ usable_lanes net kind }
+    requires { on.old ≡ replicate (most_edges * lane-spec.assignments) 0 }
+    ensures { on.new ≡ usable_lanes wiring.now.net kind }
 {
-    let count = net.edge_count as usize;
+    let count = wiring.net.edge_count as usize;
     for i in 0..count {
-        let edge = net.edges[i];
-        let y = lane_values::chosen(edge.end2, edge.end1, storage[edge.end1 as usize]);
-        if storage[y as usize] == 1 {
-            let p = places[y as usize * Symbol::BOUND + edge.symbol as usize];
+        let edge = wiring.net.edges[i];
+        let y = lane_values::chosen(edge.end2, edge.end1, wiring.storage[edge.end1 as usize]);
+        if wiring.storage[y as usize] == 1 {
+            let p = wiring.places[y as usize * Symbol::BOUND + edge.symbol as usize];
             let low = usable_at(kind, edge.form, edge.symbol, 0);
             let high = usable_at(kind, edge.form, edge.symbol, 1);
-            choose_row(on, i, columns, p as usize, low, high);
+            choose_row(on, i, &wiring.columns, p as usize, low, high);
         }
     }
 }

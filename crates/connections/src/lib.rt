@@ -8,13 +8,12 @@ ghost use Rattle.std.specs.Prelude.{◌≡◌, suc, ◌*◌, ◌≤◌, ◌<◌,
 ghost use Rattle.ternary.specs.Bits.{digit};
 ghost use Rattle.net.specs.Limits.{most_vertices, most_edges};
 ghost use Rattle.net.specs.Symbols.{decode};
-ghost use Rattle.net.specs.Tables.{Readable, storage_flags, input_labels};
 ghost use Rattle.lanes.specs.Lanes as lane-spec;
-ghost use Rattle.excitations.specs.Fit.{Fit};
-ghost use Rattle.excitations.specs.Conditions.{signal_places, symbol_at};
+ghost use Rattle.excitations.specs.Conditions.{symbol_at};
 ghost use Rattle.excitations.specs.Connections.{connected_lanes};
 ghost use Rattle.excitations.specs.Sweeps as spec;
 
+use excitations::Wiring;
 use net::{Kind, Net, Symbol};
 
 // 1 if a label has the value where its signal has the value `bit`, else 0.
@@ -27,29 +26,25 @@ fn label_hits(label: u16, bit: u8, value: u8) -> u8
 // Marks where an edge that is on joins a storage vertex to an input vertex of the value. The table comes as zeros.
 fn driven<'a, 'b>(
     marks: &'a mut [u8; Net::VERTEX_LANES],
-    net: Net,
-    storage: &'b [u8; Net::VERTEX_PLACES],
-    inputs: &'b [u16; Net::VERTEX_PLACES],
-    places: &'b [u8; Net::SYMBOL_PLACES],
-    columns: &'b [u8; Net::COLUMN_LANES],
+    wiring: &'b Wiring,
     on: &'b [u8; Net::EDGE_LANES],
     value: u8,
 )
-    requires { Fit net × (storage.now ≡ storage_flags net) × (inputs.now ≡ input_labels net) × (places.now ≡ signal_places net) × (columns.now ≡ lane-spec.columns) × (marks.old ≡ replicate (suc most_vertices * lane-spec.assignments) 0) }
-    ensures { marks.new ≡ spec.driven_lanes net on.now value }
+    requires { marks.old ≡ replicate (suc most_vertices * lane-spec.assignments) 0 }
+    ensures { marks.new ≡ spec.driven_lanes wiring.now.net on.now value }
 {
-    let count = net.edge_count as usize;
+    let count = wiring.net.edge_count as usize;
     for i in 0..count {
-        let edge = net.edges[i];
-        let flag = storage[edge.end1 as usize];
+        let edge = wiring.net.edges[i];
+        let flag = wiring.storage[edge.end1 as usize];
         let y = lane_values::chosen(edge.end2, edge.end1, flag);
         let x = lane_values::chosen(edge.end1, edge.end2, flag);
-        if storage[y as usize] == 1 && storage[x as usize] != 1 {
-            let label = inputs[x as usize];
-            let p = places[y as usize * Symbol::BOUND + label as usize];
+        if wiring.storage[y as usize] == 1 && wiring.storage[x as usize] != 1 {
+            let label = wiring.inputs[x as usize];
+            let p = wiring.places[y as usize * Symbol::BOUND + label as usize];
             let low = label_hits(label, 0, value);
             let high = label_hits(label, 1, value);
-            lane_marks::mark_row(marks, y, on, i, columns, p as usize, low, high);
+            lane_marks::mark_row(marks, y, on, i, &wiring.columns, p as usize, low, high);
         }
     }
 }
@@ -85,22 +80,20 @@ fn turned(back: bool, count: usize, n: usize) -> usize
 // The edges between storage vertices carry, one after the other. Was there nothing to carry?
 fn sweep<'a, 'b>(
     marks: &'a mut [u8; Net::VERTEX_LANES],
-    net: Net,
-    storage: &'b [u8; Net::VERTEX_PLACES],
+    wiring: &'b Wiring,
     on: &'b [u8; Net::EDGE_LANES],
     back: bool,
 ) -> bool
-    requires { Readable net × (storage.now ≡ storage_flags net) }
-    ensures { (marks.new ≡ spec.sweep net on.now back net.edge_count marks.old) × (result ≡ spec.is_closed net on.now marks.old) }
+    ensures { (marks.new ≡ spec.sweep wiring.now.net on.now back wiring.now.net.edge_count marks.old) × (result ≡ spec.is_closed wiring.now.net on.now marks.old) }
 {
-    let count = net.edge_count as usize;
+    let count = wiring.net.edge_count as usize;
     let mut closed = true;
     for n in 0..count {
         let i = turned(back, count, n);
-        let edge = net.edges[i];
+        let edge = wiring.net.edges[i];
         let u = edge.end1;
         let v = edge.end2;
-        if storage[u as usize] == 1 && storage[v as usize] == 1 {
+        if wiring.storage[u as usize] == 1 && wiring.storage[v as usize] == 1 {
             if !carry(marks, u, v, on, i) {
                 closed = false;
             }
@@ -109,26 +102,18 @@ fn sweep<'a, 'b>(
     closed
 }
 
-// 1 where a storage vertex has a connection of a kind to an input vertex of the value. The table comes as zeros.
-pub fn connected_lanes<'a, 'b>(
-    marks: &'a mut [u8; Net::VERTEX_LANES],
-    net: Net,
-    storage: &'b [u8; Net::VERTEX_PLACES],
-    inputs: &'b [u16; Net::VERTEX_PLACES],
-    places: &'b [u8; Net::SYMBOL_PLACES],
-    columns: &'b [u8; Net::COLUMN_LANES],
-    kind: Kind,
-    value: u8,
-)
-    requires { Fit net × (storage.now ≡ storage_flags net) × (inputs.now ≡ input_labels net) × (places.now ≡ signal_places net) × (columns.now ≡ lane-spec.columns) × (marks.old ≡ replicate (suc most_vertices * lane-spec.assignments) 0) }
-    ensures { marks.new ≡ connected_lanes net kind value }
+// 1 where a storage vertex has a connection of a kind to an input vertex of the value.
+pub fn connected_lanes(wiring: &Wiring, kind: Kind, value: u8) -> [u8; Net::VERTEX_LANES]
+    ensures { result ≡ connected_lanes wiring.now.net kind value }
 {
     let mut on = [0u8; Net::EDGE_LANES];
-    conditions::usable_lanes(&mut on, net, storage, places, columns, kind);
-    driven(marks, net, storage, inputs, places, columns, &on, value);
+    conditions::usable_lanes(&mut on, wiring, kind);
+    let mut marks = [0u8; Net::VERTEX_LANES];
+    driven(&mut marks, wiring, &on, value);
     // A chain of edges that stand against the order takes one sweep back, but a sweep an edge forward.
     let mut back = false;
-    while !sweep(marks, net, storage, &on, back) {
+    while !sweep(&mut marks, wiring, &on, back) {
         back = !back;
     }
+    marks
 }

@@ -2,3 +2,7 @@
 //! Conditions of edges give connections to input vertices, and these give excitations. The functions are in the crates `connections` and
 //! `vertex_rows`.
 #![tactic(auto)]
+
+mod wiring;
+
+pub use wiring::Wiring;

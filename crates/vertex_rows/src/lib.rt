@@ -4,14 +4,13 @@
 ghost use Rattle.std.specs.Prelude.{◌≡◌, suc, ◌*◌, eqb, length, get_or};
 ghost use Rattle.ternary.specs.Lists.{table};
 ghost use Rattle.net.specs.Limits.{most_vertices};
-ghost use Rattle.net.specs.Tables.{storage_flags, input_labels};
 ghost use Rattle.net.specs.Excitation.{excitation_of};
 ghost use Rattle.lanes.specs.Lanes.{assignments};
 ghost use Rattle.lanes.specs.Lanes as lane-spec;
 ghost use Rattle.excitations.specs.Fit.{Fit};
-ghost use Rattle.excitations.specs.Conditions.{signal_places};
 ghost use Rattle.excitations.specs.Excitations.{excitation_lanes};
 
+use excitations::Wiring;
 use net::{Kind, Net};
 
 // Row p holds bit p of each assignment.
@@ -60,44 +59,15 @@ fn combine<'a, 'b>(
     }
 }
 
-// The table, from those of the graph, the places of the signals and the columns.
-fn fill_from<'a, 'b>(
-    net: Net,
-    storage: &'b [u8; Net::VERTEX_PLACES],
-    inputs: &'b [u16; Net::VERTEX_PLACES],
-    places: &'b [u8; Net::SYMBOL_PLACES],
-    columns: &'b [u8; Net::COLUMN_LANES],
-    excitations: &'a mut [u8; Net::VERTEX_LANES],
-)
-    requires { Fit net × (storage.now ≡ storage_flags net) × (inputs.now ≡ input_labels net) × (places.now ≡ signal_places net) × (columns.now ≡ lane-spec.columns) × (length excitations.old ≡ suc most_vertices * assignments) }
-    ensures { excitations.new ≡ excitation_lanes net }
+// The table, from what the walks read.
+fn fill_from<'a, 'b>(wiring: &'b Wiring, excitations: &'a mut [u8; Net::VERTEX_LANES])
+    requires { length excitations.old ≡ suc most_vertices * assignments }
+    ensures { excitations.new ≡ excitation_lanes wiring.now.net }
 {
-    let mut c0 = [0u8; Net::VERTEX_LANES];
-    connections::connected_lanes(&mut c0, net, storage, inputs, places, columns, Kind::Any, 0);
-    let mut c1 = [0u8; Net::VERTEX_LANES];
-    connections::connected_lanes(&mut c1, net, storage, inputs, places, columns, Kind::Any, 1);
-    let mut n0 = [0u8; Net::VERTEX_LANES];
-    connections::connected_lanes(
-        &mut n0,
-        net,
-        storage,
-        inputs,
-        places,
-        columns,
-        Kind::NType,
-        0,
-    );
-    let mut p1 = [0u8; Net::VERTEX_LANES];
-    connections::connected_lanes(
-        &mut p1,
-        net,
-        storage,
-        inputs,
-        places,
-        columns,
-        Kind::PType,
-        1,
-    );
+    let c0 = connections::connected_lanes(wiring, Kind::Any, 0);
+    let c1 = connections::connected_lanes(wiring, Kind::Any, 1);
+    let n0 = connections::connected_lanes(wiring, Kind::NType, 0);
+    let p1 = connections::connected_lanes(wiring, Kind::PType, 1);
     combine(excitations, &n0, &c0, &p1, &c1);
 }
 
@@ -106,9 +76,14 @@ pub fn fill<'a>(net: Net, excitations: &'a mut [u8; Net::VERTEX_LANES])
     requires { Fit net × (length excitations.old ≡ suc most_vertices * assignments) }
     ensures { excitations.new ≡ excitation_lanes net }
 {
-    let graph = component_labels::graph(net);
-    let inputs = signals::input_labels(net);
-    let places = signal_places::signal_places(&graph);
-    let columns = columns();
-    fill_from(net, &graph.storage, &inputs, &places, &columns, excitations);
+    let storage = graph::storage_flags(net);
+    let labels = component_labels::component_labels(net, &storage);
+    let wiring = Wiring {
+        net,
+        storage,
+        inputs: signals::input_labels(net),
+        places: signal_places::signal_places(net, &storage, &labels),
+        columns: columns(),
+    };
+    fill_from(&wiring, excitations);
 }

@@ -6,8 +6,8 @@ use Rattle.excitations.proofs.Marks.{Marks}
 use Rattle.connections.proofs.connected_lanes.Given as goal
 
 -- the loop holds the edges that the kind may use, but not the kind
-abbrev pub invariant-loop-net : goal.invariant-loop-net
-invariant-loop-net l = (k : Kind) → l.on ≡ usable_lanes l.net k → Marks l.net k l.value l.marks
+abbrev pub invariant-loop-on : goal.invariant-loop-on
+invariant-loop-on l = (k : Kind) → l.on ≡ usable_lanes l.wiring.net k → Marks l.wiring.net k l.value l.marks
 
-abbrev pub decreases-loop-net : goal.decreases-loop-net
-decreases-loop-net l = unset l.marks
+abbrev pub decreases-loop-on : goal.decreases-loop-on
+decreases-loop-on l = unset l.marks

@@ -17,46 +17,46 @@ use Rattle.excitations.proofs.Turns.{inner_by_flags, outer_first, outer_second, 
 use Rattle.net.specs.Classes.{inner}
 use mathlib.Core.Bool.{false}
 use Rattle.connections.proofs.sweep.Goals as goal
-use Rattle.connections.proofs.sweep.Goals.{After-turned-i, Joined-storage-u-eq1, else-storage-u-eq1, then-storage-u-eq1+then-storage-v-eq1+else-not-carry, then-storage-u-eq1+then-storage-v-eq1+then-not-carry, else-storage-u-eq1-via-then-storage-u-eq1+else-storage-v-eq1, else-storage-u-eq1-via-else-storage-u-eq1}
+use Rattle.connections.proofs.sweep.Goals.{After-turned-i, Joined-wiring-u-eq1, else-wiring-u-eq1, then-wiring-u-eq1+then-wiring-v-eq1+else-not-carry, then-wiring-u-eq1+then-wiring-v-eq1+then-not-carry, else-wiring-u-eq1-via-then-wiring-u-eq1+else-wiring-v-eq1, else-wiring-u-eq1-via-else-wiring-u-eq1}
 
 -- the edge whose turn it is
-in-net : (c : After-turned-i) → c.turned-i.result < c.args.net.edge_count
+in-net : (c : After-turned-i) → c.turned-i.result < c.args.wiring.now.net.edge_count
 in-net c = rw c.turned-i.ensures (turned_below c.args.back _ _ c.loop-n-test.true)
 
 -- its ends
-ends : (c : After-turned-i) → (let e = get_or c.args.net.edges c.turned-i.result no_edge in (e.end1 ≤ most_vertices) × (e.end2 ≤ most_vertices))
+ends : (c : After-turned-i) → (let e = get_or c.args.wiring.now.net.edges c.turned-i.result no_edge in (e.end1 ≤ most_vertices) × (e.end2 ≤ most_vertices))
 unfolding edge_at
-ends c = let r = c.requires.0 in (r.first_end c.turned-i.result (in-net c), r.second_end c.turned-i.result (in-net c))
+ends c = let r = c.args.wiring.now.fit.readable in (r.first_end c.turned-i.result (in-net c), r.second_end c.turned-i.result (in-net c))
 
 -- what a turn makes of the marks, and whether the edges so far were level
-turn : (c : Joined-storage-u-eq1) → (let n = c.loop-n.n in
-    (c.if-storage-u-eq1.marks ≡ sweep c.args.net c.args.on.now c.args.back (n + 1) c.args.marks.now)
-    × (c.if-storage-u-eq1.closed ≡ level_first c.args.net c.args.on.now c.args.back c.args.marks.now (n + 1)))
+turn : (c : Joined-wiring-u-eq1) → (let n = c.loop-n.n in
+    (c.if-wiring-u-eq1.marks ≡ sweep c.args.wiring.now.net c.args.on.now c.args.back (n + 1) c.args.marks.now)
+    × (c.if-wiring-u-eq1.closed ≡ level_first c.args.wiring.now.net c.args.on.now c.args.back c.args.marks.now (n + 1)))
 unfolding edge_at
 turn c =
     let l = c.loop-n in
-    let N = c.args.net in
+    let N = c.args.wiring.now.net in
     let i = c.turned-i.result in
     let e = c.turned-i.ensures in
     let n = l.n in
     let swept = l.invariant.1 in
     let seen = ap (λ (r : List ℕ). level c.args.on.now i r (edge_at N i).end1 (edge_at N i).end2) (sym swept) in
-    elim c.if-storage-u-eq1.branch [
-      | then-storage-u-eq1+then-storage-v-eq1+then-not-carry w ↦
-          let inside = inner_by_flags N i c.requires.1 (ends (goal.at.Joined-storage-u-eq1 c).After-turned-i).0 (ends (goal.at.Joined-storage-u-eq1 c).After-turned-i).1 w.if-storage-u-eq1.true w.if-storage-v-eq1.true in (
+    elim c.if-wiring-u-eq1.branch [
+      | then-wiring-u-eq1+then-wiring-v-eq1+then-not-carry w ↦
+          let inside = inner_by_flags N i c.args.wiring.now.flags (ends (goal.at.Joined-wiring-u-eq1 c).After-turned-i).0 (ends (goal.at.Joined-wiring-u-eq1 c).After-turned-i).1 w.if-wiring-u-eq1.true w.if-wiring-v-eq1.true in (
             w.marks-is ∙ w.carry.ensures.0 ∙ ap (carry_at N c.args.on.now i) swept ∙ sweep-on N i c.args.on.now c.args.marks.now c.args.back n e inside,
             w.closed-is ∙ not_level N i c.args.on.now c.args.marks.now c.args.back n e inside (seen ∙ sym w.carry.ensures.1 ∙ w.if-not-carry.true),
           )
-      | then-storage-u-eq1+then-storage-v-eq1+else-not-carry w ↦
-          let inside = inner_by_flags N i c.requires.1 (ends (goal.at.Joined-storage-u-eq1 c).After-turned-i).0 (ends (goal.at.Joined-storage-u-eq1 c).After-turned-i).1 w.if-storage-u-eq1.true w.if-storage-v-eq1.true in (
+      | then-wiring-u-eq1+then-wiring-v-eq1+else-not-carry w ↦
+          let inside = inner_by_flags N i c.args.wiring.now.flags (ends (goal.at.Joined-wiring-u-eq1 c).After-turned-i).0 (ends (goal.at.Joined-wiring-u-eq1 c).After-turned-i).1 w.if-wiring-u-eq1.true w.if-wiring-v-eq1.true in (
             w.marks-is ∙ w.carry.ensures.0 ∙ ap (carry_at N c.args.on.now i) swept ∙ sweep-on N i c.args.on.now c.args.marks.now c.args.back n e inside,
             w.closed-is ∙ level-on N i c.args.on.now c.args.marks.now c.args.back n e l.invariant.2 (seen ∙ sym w.carry.ensures.1 ∙ w.if-not-carry.false),
           )
-      | else-storage-u-eq1 w ↦
+      | else-wiring-u-eq1 w ↦
           let outside : inner N (edge_at N i) ≡ false =
-          elim w.else-storage-u-eq1.branch [
-            | else-storage-u-eq1-via-then-storage-u-eq1+else-storage-v-eq1 v ↦ outer_second N i c.requires.1 (ends (goal.at.Joined-storage-u-eq1 c).After-turned-i).1 v.if-storage-v-eq1.false
-            | else-storage-u-eq1-via-else-storage-u-eq1 v ↦ outer_first N i c.requires.1 (ends (goal.at.Joined-storage-u-eq1 c).After-turned-i).0 v.if-storage-u-eq1.false
+          elim w.else-wiring-u-eq1.branch [
+            | else-wiring-u-eq1-via-then-wiring-u-eq1+else-wiring-v-eq1 v ↦ outer_second N i c.args.wiring.now.flags (ends (goal.at.Joined-wiring-u-eq1 c).After-turned-i).1 v.if-wiring-v-eq1.false
+            | else-wiring-u-eq1-via-else-wiring-u-eq1 v ↦ outer_first N i c.args.wiring.now.flags (ends (goal.at.Joined-wiring-u-eq1 c).After-turned-i).0 v.if-wiring-u-eq1.false
           ] in (
             w.marks-is ∙ swept ∙ sweep_off N i c.args.on.now c.args.marks.now c.args.back n e outside,
             w.closed-is ∙ level_off N i c.args.on.now c.args.marks.now c.args.back n e l.invariant.2 outside,
@@ -67,34 +67,34 @@ pub loop-n-init : goal.loop-n-init
 unfolding sweep all_below
 loop-n-init c = (search rules, refl, refl)
 
-pub offset_bounds-net-i : goal.offset_bounds-net-i
-offset_bounds-net-i c = omega (arith, in-net (goal.at.offset_bounds-net-i c).After-turned-i, c.requires.0.edges)
+pub offset_bounds-wiring-i : goal.offset_bounds-wiring-i
+offset_bounds-wiring-i c = omega (arith, in-net (goal.at.offset_bounds-wiring-i c).After-turned-i, c.args.wiring.now.fit.readable.edges)
 
-pub bounds-net-i : goal.bounds-net-i
-bounds-net-i c = omega (arith, in-net (goal.at.bounds-net-i c).After-turned-i, c.requires.0.edges)
+pub bounds-wiring-i : goal.bounds-wiring-i
+bounds-wiring-i c = omega (arith, in-net (goal.at.bounds-wiring-i c).After-turned-i, c.args.wiring.now.fit.readable.edges)
 
 pub overflow_cast-u : goal.overflow_cast-u
 overflow_cast-u c = omega (arith, ends (goal.at.overflow_cast-u c).After-turned-i)
 
-pub bounds-storage-u : goal.bounds-storage-u
-bounds-storage-u c = omega (arith, ends (goal.at.bounds-storage-u c).After-turned-i)
+pub bounds-wiring-u : goal.bounds-wiring-u
+bounds-wiring-u c = omega (arith, ends (goal.at.bounds-wiring-u c).After-turned-i)
 
 pub overflow_cast-v : goal.overflow_cast-v
 overflow_cast-v c = omega (arith, ends (goal.at.overflow_cast-v c).After-turned-i)
 
-pub bounds-storage-v : goal.bounds-storage-v
-bounds-storage-v c = omega (arith, ends (goal.at.bounds-storage-v c).After-turned-i)
+pub bounds-wiring-v : goal.bounds-wiring-v
+bounds-wiring-v c = omega (arith, ends (goal.at.bounds-wiring-v c).After-turned-i)
 
 pub carry-requires : goal.carry-requires
 carry-requires c =
-    ((ends (goal.at.carry-requires c).After-turned-i).0, (ends (goal.at.carry-requires c).After-turned-i).1, omega (arith, in-net (goal.at.carry-requires c).After-turned-i, c.requires.0.edges))
+    ((ends (goal.at.carry-requires c).After-turned-i).0, (ends (goal.at.carry-requires c).After-turned-i).1, omega (arith, in-net (goal.at.carry-requires c).After-turned-i, c.args.wiring.now.fit.readable.edges))
 
 pub loop-n-preserved : goal.loop-n-preserved
-loop-n-preserved c = (search rules, (turn (goal.at.loop-n-preserved c).Joined-storage-u-eq1).0, (turn (goal.at.loop-n-preserved c).Joined-storage-u-eq1).1)
+loop-n-preserved c = (search rules, (turn (goal.at.loop-n-preserved c).Joined-wiring-u-eq1).0, (turn (goal.at.loop-n-preserved c).Joined-wiring-u-eq1).1)
 
 pub returns : goal.returns
 returns c =
-    let q : c.loop-n.n ≡ c.args.net.edge_count = omega arith in (
+    let q : c.loop-n.n ≡ c.args.wiring.now.net.edge_count = omega arith in (
       rw q at c.loop-n.invariant.1,
       rw q at c.loop-n.invariant.2 ∙ level_all _ _ _ _,
     )

@@ -1,7 +1,7 @@
 -- `vertex_rows::fill` meets its contract: the tables that it hands on are those of the net. Assumes nothing.
+use Rattle.net.proofs.TableLaws.{prepared}
 use Rattle.vertex_rows.proofs.fill.Goals as goal
 
-pub fill_from-requires : goal.fill_from-requires
-fill_from-requires c =
-    let e = c.graph-graph.ensures in
-    (c.requires.0, rw e at c.graph-graph.result.prepared.flags, c.input_labels-inputs.ensures, rw e at c.signal_places-places.ensures, c.columns-columns.ensures, c.requires.1)
+pub signal_places-requires : goal.signal_places-requires
+signal_places-requires c =
+    prepared _ c.requires.0.readable c.storage_flags-storage.ensures c.component_labels-labels.ensures

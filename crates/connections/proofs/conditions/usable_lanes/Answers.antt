@@ -20,63 +20,63 @@ use Rattle.excitations.proofs.PlaceLaws.{place_read, place_small}
 use Rattle.excitations.proofs.StateValues.{symbol_bound_lem}
 use Rattle.excitations.proofs.UsableLaws.{length-usable, usable_none, usable-step, usable_skip, usable_all}
 use Rattle.connections.proofs.conditions.usable_lanes.Goals as goal
-use Rattle.connections.proofs.conditions.usable_lanes.Goals.{After-chosen-y, In-loop-i, Then-storage-y-eq1, then-storage-y-eq1, else-storage-y-eq1}
+use Rattle.connections.proofs.conditions.usable_lanes.Goals.{After-chosen-y, In-loop-i, Then-wiring-y-eq1, then-wiring-y-eq1, else-wiring-y-eq1}
 
 -- the first end of edge i, and its symbol
-edge-known : (c : In-loop-i) → (let e = get_or c.args.net.edges c.loop-i.i no_edge in (e.end1 ≤ most_vertices) × (e.symbol < symbol_bound))
+edge-known : (c : In-loop-i) → (let e = get_or c.args.wiring.now.net.edges c.loop-i.i no_edge in (e.end1 ≤ most_vertices) × (e.symbol < symbol_bound))
 unfolding edge_at
-edge-known c = let fit = c.requires.0 in (fit.readable.first_end c.loop-i.i c.loop-i-test.true, symbol_bound_lem _ fit.known c.loop-i.i c.loop-i-test.true)
+edge-known c = let fit = c.args.wiring.now.fit in (fit.readable.first_end c.loop-i.i c.loop-i-test.true, symbol_bound_lem _ fit.known c.loop-i.i c.loop-i-test.true)
 
 -- the end that is chosen
-owned : (c : After-chosen-y) → (let N = c.args.net in c.chosen-y.result ≡ owner N (edge_at N c.loop-i.i))
+owned : (c : After-chosen-y) → (let N = c.args.wiring.now.net in c.chosen-y.result ≡ owner N (edge_at N c.loop-i.i))
 unfolding edge_at
 owned c =
-    c.chosen-y.ensures ∙ owner-chosen c.args.net c.args.storage.now c.requires.1 _ (edge-known (goal.at.After-chosen-y c).In-loop-i).0
+    c.chosen-y.ensures ∙ owner-chosen c.args.wiring.now.net c.args.wiring.now.storage c.args.wiring.now.flags _ (edge-known (goal.at.After-chosen-y c).In-loop-i).0
 
 in_table : (c : After-chosen-y) → c.chosen-y.result ≤ most_vertices
 in_table c =
-    rw (owned c) (owner_range _ c.requires.0.readable c.loop-i.i c.loop-i-test.true)
+    rw (owned c) (owner_range _ c.args.wiring.now.fit.readable c.loop-i.i c.loop-i-test.true)
 
 -- the flag that the loop tests
-storage : (c : After-chosen-y) → (let N = c.args.net in
-    is_storage N (owner N (edge_at N c.loop-i.i)) ≡ eqb (get_or c.args.storage.now c.chosen-y.result 0) 1)
-storage c = rw (← owned c) (sym (storage_test _ _ c.requires.1 c.chosen-y.result (in_table c)))
+storage : (c : After-chosen-y) → (let N = c.args.wiring.now.net in
+    is_storage N (owner N (edge_at N c.loop-i.i)) ≡ eqb (get_or c.args.wiring.now.storage c.chosen-y.result 0) 1)
+storage c = rw (← owned c) (sym (storage_test _ _ c.args.wiring.now.flags c.chosen-y.result (in_table c)))
 
 -- the place of the symbol's signal
-place : (c : After-chosen-y) → (let N = c.args.net in let e = get_or N.edges c.loop-i.i no_edge in
-    is_storage N (owner N e) ≡ true → get_or c.args.places.now (c.chosen-y.result * symbol_bound + e.symbol) 0 ≡ signal_index N (owner N e) e.symbol)
+place : (c : After-chosen-y) → (let N = c.args.wiring.now.net in let e = get_or N.edges c.loop-i.i no_edge in
+    is_storage N (owner N e) ≡ true → get_or c.args.wiring.now.places (c.chosen-y.result * symbol_bound + e.symbol) 0 ≡ signal_index N (owner N e) e.symbol)
 unfolding edge_at
 place c sy =
-    ap (λ (places : List ℕ). get_or places (c.chosen-y.result * symbol_bound + (edge_at c.args.net c.loop-i.i).symbol) 0) c.requires.2
-    ∙ rw (owned c) (place_read _ _ _ sy (owner_range _ c.requires.0.readable c.loop-i.i c.loop-i-test.true) (edge-known (goal.at.After-chosen-y c).In-loop-i).1)
+    ap (λ (places : List ℕ). get_or places (c.chosen-y.result * symbol_bound + (edge_at c.args.wiring.now.net c.loop-i.i).symbol) 0) c.args.wiring.now.placed
+    ∙ rw (owned c) (place_read _ _ _ sy (owner_range _ c.args.wiring.now.fit.readable c.loop-i.i c.loop-i-test.true) (edge-known (goal.at.After-chosen-y c).In-loop-i).1)
 
 -- it is a row of the columns
-place-few : (c : Then-storage-y-eq1) → (let e = get_or c.args.net.edges c.loop-i.i no_edge in
-    get_or c.args.places.now (c.chosen-y.result * symbol_bound + e.symbol) 0 ≤ most_signals)
+place-few : (c : Then-wiring-y-eq1) → (let e = get_or c.args.wiring.now.net.edges c.loop-i.i no_edge in
+    get_or c.args.wiring.now.places (c.chosen-y.result * symbol_bound + e.symbol) 0 ≤ most_signals)
 unfolding edge_at
 place-few c =
-    let sy = storage (goal.at.Then-storage-y-eq1 c).After-chosen-y ∙ eq-eqb _ _ c.if-storage-y-eq1.true in
-    rw (place (goal.at.Then-storage-y-eq1 c).After-chosen-y sy) (place_small _ _ _ c.requires.0 sy (omega (arith, edge-known (goal.at.Then-storage-y-eq1 c).In-loop-i)))
+    let sy = storage (goal.at.Then-wiring-y-eq1 c).After-chosen-y ∙ eq-eqb _ _ c.if-wiring-y-eq1.true in
+    rw (place (goal.at.Then-wiring-y-eq1 c).After-chosen-y sy) (place_small _ _ _ c.args.wiring.now.fit sy (omega (arith, edge-known (goal.at.Then-wiring-y-eq1 c).In-loop-i)))
 
 -- the table's length
 size : (c : In-loop-i) → length c.loop-i.on ≡ most_edges * assignments
 size c = ap length c.loop-i.invariant.1 ∙ length-usable _ _ _
 
 pub loop-i-init : goal.loop-i-init
-loop-i-init c = (search rules, c.requires.4 ∙ usable_none _ _)
+loop-i-init c = (search rules, c.requires ∙ usable_none _ _)
 
-pub bounds-storage-edge : goal.bounds-storage-edge
-bounds-storage-edge c = omega (arith, edge-known (goal.at.bounds-storage-edge c).In-loop-i)
+pub bounds-wiring-edge : goal.bounds-wiring-edge
+bounds-wiring-edge c = omega (arith, edge-known (goal.at.bounds-wiring-edge c).In-loop-i)
 
-pub bounds-storage-y : goal.bounds-storage-y
-bounds-storage-y c = omega (arith, in_table (goal.at.bounds-storage-y c).After-chosen-y)
+pub bounds-wiring-y : goal.bounds-wiring-y
+bounds-wiring-y c = omega (arith, in_table (goal.at.bounds-wiring-y c).After-chosen-y)
 
-pub bounds-places-y : goal.bounds-places-y
-bounds-places-y c = omega (arith, in_table (goal.at.bounds-places-y c).After-chosen-y, edge-known (goal.at.bounds-places-y c).In-loop-i)
+pub bounds-wiring-y-then-wiring-y-eq1 : goal.bounds-wiring-y-then-wiring-y-eq1
+bounds-wiring-y-then-wiring-y-eq1 c = omega (arith, in_table (goal.at.bounds-wiring-y-then-wiring-y-eq1 c).After-chosen-y, edge-known (goal.at.bounds-wiring-y-then-wiring-y-eq1 c).In-loop-i)
 
 pub choose_row-requires : goal.choose_row-requires
 choose_row-requires c =
-    (omega (arith, size (goal.at.choose_row-requires c).In-loop-i, c.requires.0.readable.edges), place-few (goal.at.choose_row-requires c).Then-storage-y-eq1, c.requires.3)
+    (omega (arith, size (goal.at.choose_row-requires c).In-loop-i, c.args.wiring.now.fit.readable.edges), place-few (goal.at.choose_row-requires c).Then-wiring-y-eq1, c.args.wiring.now.listed)
 
 pub loop-i-preserved : goal.loop-i-preserved
 unfolding edge_at
@@ -84,15 +84,15 @@ loop-i-preserved c =
     let i = c.loop-i.i in
     let e = c.loop-i.invariant.1 in (
       search rules,
-      elim c.if-storage-y-eq1.branch [
-        | then-storage-y-eq1 w ↦
-            let sy = storage (goal.at.loop-i-preserved c).After-chosen-y ∙ eq-eqb _ _ w.if-storage-y-eq1.true in
-            w.on-is ∙ usable-step c.args.net c.args.kind c.requires.0 i c.loop-i-test.true sy (place (goal.at.loop-i-preserved c).After-chosen-y sy) w.usable_at-low.ensures w.usable_at-high.ensures e w.choose_row.ensures
-        | else-storage-y-eq1 w ↦ w.on-is ∙ usable_skip c.args.net c.args.kind i (storage (goal.at.loop-i-preserved c).After-chosen-y ∙ ne_eqb _ _ w.if-storage-y-eq1.false) e
+      elim c.if-wiring-y-eq1.branch [
+        | then-wiring-y-eq1 w ↦
+            let sy = storage (goal.at.loop-i-preserved c).After-chosen-y ∙ eq-eqb _ _ w.if-wiring-y-eq1.true in
+            w.on-is ∙ usable-step c.args.wiring.now.net c.args.kind c.args.wiring.now.fit i c.loop-i-test.true sy (place (goal.at.loop-i-preserved c).After-chosen-y sy) w.usable_at-low.ensures w.usable_at-high.ensures e w.choose_row.ensures
+        | else-wiring-y-eq1 w ↦ w.on-is ∙ usable_skip c.args.wiring.now.net c.args.kind i (storage (goal.at.loop-i-preserved c).After-chosen-y ∙ ne_eqb _ _ w.if-wiring-y-eq1.false) e
       ],
     )
 
 pub returns : goal.returns
 returns c =
-    let q : c.loop-i.i ≡ c.args.net.edge_count = omega arith in
+    let q : c.loop-i.i ≡ c.args.wiring.now.net.edge_count = omega arith in
     rw q at c.loop-i.invariant.1 ∙ usable_all _ _
