@@ -2,7 +2,7 @@
 #![tactic(auto)]
 
 ghost use Rattle.std.specs.Prelude.{◌≡◌, suc, ◌*◌, ◌≤◌, ◌&&◌, eqb, leb, length};
-ghost use Rattle.ternary.specs.Bits.{digit};
+ghost use Rattle.std.specs.List.{list_any};
 ghost use Rattle.ternary.specs.Lists.{any_below};
 ghost use Rattle.net.specs.Limits.{most_vertices};
 ghost use Rattle.net.specs.WellFormed.{place_c1};
@@ -14,24 +14,11 @@ ghost use Rattle.sheet.specs.Search.{found_of};
 
 use net::Net;
 
-// 1 for an excitation of 2, 3 or 5, else 0.
-fn is_broken(excitation: u8) -> u8
-    ensures { result ≡ digit (leb 2 excitation) }
+// Is some entry of a row 2, 3 or 5?
+fn row_breaks(row: &[u8]) -> bool
+    ensures { result ≡ list_any (leb 2) row.now }
 {
-    if excitation < 2 { 0 } else { 1 }
-}
-
-// Is some entry of row y 2, 3 or 5?
-fn row_breaks(excitations: &[u8; Net::VERTEX_LANES], y: usize) -> bool
-    requires { y ≤ most_vertices }
-    ensures { result ≡ any_below assignments (λ w. leb 2 (lane excitations.now y w)) }
-{
-    let from = y * Net::ASSIGNMENTS;
-    let mut found: u8 = 0;
-    for w in 0..Net::ASSIGNMENTS {
-        found = found | is_broken(excitations[from + w]);
-    }
-    found == 1
+    row.iter().any(|excitation| *excitation >= 2)
 }
 
 // Is y, with the flag of a key node, ever excited to 2, 3 or 5?
@@ -39,10 +26,8 @@ fn breaks(key: u8, excitations: &[u8; Net::VERTEX_LANES], y: usize) -> bool
     requires { y ≤ most_vertices }
     ensures { result ≡ (eqb key 1 && any_below assignments (λ w. leb 2 (lane excitations.now y w))) }
 {
-    if key != 1 {
-        return false;
-    }
-    row_breaks(excitations, y)
+    let from = y * Net::ASSIGNMENTS;
+    key == 1 && row_breaks(&excitations[from..from + Net::ASSIGNMENTS])
 }
 
 // The lowest key vertex that is ever excited to 2, 3 or 5, by the tables of flags and of excitations.
@@ -54,13 +39,8 @@ fn lowest_in_rows<'a>(
     requires { Fit net × (keys.now ≡ key_flags net) × (excitations.now ≡ excitation_lanes net) }
     ensures { result ≡ found_of (place_c1 net) }
 {
-    let end = net.vertex_count as usize + 1;
-    for y in 0..end {
-        if breaks(keys[y], excitations, y) {
-            return Some(y as u16);
-        }
-    }
-    None
+    let end = net.vertex_count as u16 + 1;
+    (0..end).find(|y| breaks(keys[*y as usize], excitations, *y as usize))
 }
 
 // The lowest vertex that breaks C1. The table of excitations, which tells it, is left to the caller.

@@ -3,7 +3,6 @@ use Prim.Native.Nat.{ℕ, suc}
 use mathlib.Core.Path.{◌≡◌, sym, ◌∙◌}
 use mathlib.Core.Bool.{Bool, ◌&&◌}
 use mathlib.Core.List.{List}
-use mathlib.Core.Option.{none, some}
 use lib.Dec.{eqb, leb}
 use lib.ListN.{get_or}
 use Rattle.ternary.specs.Lists.{any_below, least_below}
@@ -18,8 +17,6 @@ use Rattle.lanes.specs.Lanes.{assignments, lane}
 use Rattle.excitations.specs.Fit.{Fit}
 use Rattle.excitations.specs.Excitations.{excitation_lanes}
 use Rattle.troubles.proofs.FirstLaws.{place_c1_lem}
-use Rattle.std.specs.Prelude.{Some, None}
-use Rattle.sheet.specs.Search.{found_of}
 
 -- by a table of flags and one of excitations: v is a key node that is somewhere excited to 2, 3 or 5
 abbrev pub breaking : List ℕ → List ℕ → ℕ → Bool
@@ -31,11 +28,5 @@ module _ (N : Net) (fit : Fit N) where
   key_test = flag_test (is_key N) (λ v k. storage_row N fit.readable v (key_storage N v k))
 
   module _ {keys ex : List ℕ} (ek : keys ≡ key_flags N) (ee : ex ≡ excitation_lanes N) where
-    place : least_below (suc N.vertex_count) (breaking keys ex) ≡ place_c1 N
-    place = least_ext _ _ _ (λ v _. rw (ek, ee, key_test v)) ∙ sym (place_c1_lem N fit)
-
-    pub break_found : (y : ℕ) → least_below (suc N.vertex_count) (breaking keys ex) ≡ some y → Some y ≡ found_of (place_c1 N)
-    break_found y e = rw (sym place ∙ e)
-
-    pub break_missing : least_below (suc N.vertex_count) (breaking keys ex) ≡ none → None ≡ found_of (place_c1 N)
-    break_missing e = rw (sym place ∙ e)
+    pub breaking_place : least_below (suc N.vertex_count) (breaking keys ex) ≡ place_c1 N
+    breaking_place = least_ext _ _ _ (λ v _. rw (ek, ee, key_test v)) ∙ sym (place_c1_lem N fit)
