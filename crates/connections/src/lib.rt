@@ -94,26 +94,28 @@ fn sweep<'a, 'b>(
         let u = edge.end1;
         let v = edge.end2;
         if wiring.storage[u as usize] == 1 && wiring.storage[v as usize] == 1 {
-            if !carry(marks, u, v, on, i) {
-                closed = false;
-            }
+            closed &= carry(marks, u, v, on, i);
         }
     }
     closed
 }
 
-// 1 where a storage vertex has a connection of a kind to an input vertex of the value.
-pub fn connected_lanes(wiring: &Wiring, kind: Kind, value: u8) -> [u8; Net::VERTEX_LANES]
-    ensures { result ≡ connected_lanes wiring.now.net kind value }
+// 1 where a storage vertex has a connection of a kind to an input vertex of the value. The table comes as zeros: one that is returned is copied twice.
+pub fn connected_lanes<'a, 'b>(
+    marks: &'a mut [u8; Net::VERTEX_LANES],
+    wiring: &'b Wiring,
+    kind: Kind,
+    value: u8,
+)
+    requires { marks.old ≡ replicate (suc most_vertices * lane-spec.assignments) 0 }
+    ensures { marks.new ≡ connected_lanes wiring.now.net kind value }
 {
     let mut on = [0u8; Net::EDGE_LANES];
     conditions::usable_lanes(&mut on, wiring, kind);
-    let mut marks = [0u8; Net::VERTEX_LANES];
-    driven(&mut marks, wiring, &on, value);
+    driven(marks, wiring, &on, value);
     // A chain of edges that stand against the order takes one sweep back, but a sweep an edge forward.
     let mut back = false;
-    while !sweep(&mut marks, wiring, &on, back) {
+    while !sweep(marks, wiring, &on, back) {
         back = !back;
     }
-    marks
 }

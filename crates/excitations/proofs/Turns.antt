@@ -1,14 +1,14 @@
 -- What a turn of a sweep finds, and what it adds to the marks and to the test of level edges.
 use Prim.Native.Nat.{ℕ, ◌+◌, ◌≤◌}
 use mathlib.Core.Path.{◌≡◌, sym, ◌∙◌}
-use mathlib.Core.Bool.{Bool, true, false, not}
+use mathlib.Core.Bool.{Bool, true, false, ◌&&◌}
 use mathlib.Core.Logic.{◌≢◌}
 use mathlib.Core.List.{List}
 use native.Mathlib.Numerals.{add-one}
 use lib.ListN.{get_or}
 use borrow.Author.Tests.{eq-eqb, ne_eqb}
 use Rattle.ternary.specs.Lists.{all_below}
-use Rattle.ternary.proofs.Tests.{both, by_test, or_right}
+use Rattle.ternary.proofs.Tests.{both, by_test}
 use Rattle.net.specs.declared.Net.{Net}
 use Rattle.net.specs.Limits.{most_vertices}
 use Rattle.net.specs.Graph.{edge_at, is_storage}
@@ -59,15 +59,15 @@ module _ (N : Net) (i : ℕ) where
         (λ t. q ∙ t ∙ sym (rw add-one (both t (turned-level t ∙ e))))
         (λ f. q ∙ f ∙ sym (rw (add-one, all_below, f)))
 
-    pub level-on : {c : Bool} → c ≡ level_first N on back r n → level on i (sweep N on back n r) (edge_at N i).end1 (edge_at N i).end2 ≡ true → c ≡ level_first N on back r (n + 1)
-    level-on q e = still_level q (or_right (not (inner N (edge_at N i))) _ e)
-
     pub level_off : {c : Bool} → c ≡ level_first N on back r n → inner N (edge_at N i) ≡ false → c ≡ level_first N on back r (n + 1)
     level_off q e = still_level q (rw e)
 
-    -- an edge that is not level
-    pub not_level : inner N (edge_at N i) ≡ true → level on i (sweep N on back n r) (edge_at N i).end1 (edge_at N i).end2 ≡ false → false ≡ level_first N on back r (n + 1)
+    -- an edge between storage vertices
+    pub level-on : {c : Bool} → c ≡ level_first N on back r n → inner N (edge_at N i) ≡ true
+        → (c && level on i (sweep N on back n r) (edge_at N i).end1 (edge_at N i).end2) ≡ level_first N on back r (n + 1)
     unfolding all_below
-    not_level t e = by_test (level_first N on back r n)
-        (λ f. let u : edge_level N on r (turned back N.edge_count n) ≡ false = turned-level f ∙ rw (t, e) in sym (rw (add-one, all_below, f, u)))
-        (λ f. sym (rw (add-one, all_below, f)))
+    level-on q e =
+        rw (q, add-one, all_below)
+        (by_test (level_first N on back r n)
+        (λ t. let u : edge_level N on r (turned back N.edge_count n) ≡ level on i (sweep N on back n r) (edge_at N i).end1 (edge_at N i).end2 = turned-level t ∙ rw e in rw (t, u))
+        (λ f. rw f))

@@ -64,10 +64,14 @@ fn fill_from<'a, 'b>(wiring: &'b Wiring, excitations: &'a mut [u8; Net::VERTEX_L
     requires { length excitations.old ≡ suc most_vertices * assignments }
     ensures { excitations.new ≡ excitation_lanes wiring.now.net }
 {
-    let c0 = connections::connected_lanes(wiring, Kind::Any, 0);
-    let c1 = connections::connected_lanes(wiring, Kind::Any, 1);
-    let n0 = connections::connected_lanes(wiring, Kind::NType, 0);
-    let p1 = connections::connected_lanes(wiring, Kind::PType, 1);
+    let mut c0 = [0u8; Net::VERTEX_LANES];
+    connections::connected_lanes(&mut c0, wiring, Kind::Any, 0);
+    let mut c1 = [0u8; Net::VERTEX_LANES];
+    connections::connected_lanes(&mut c1, wiring, Kind::Any, 1);
+    let mut n0 = [0u8; Net::VERTEX_LANES];
+    connections::connected_lanes(&mut n0, wiring, Kind::NType, 0);
+    let mut p1 = [0u8; Net::VERTEX_LANES];
+    connections::connected_lanes(&mut p1, wiring, Kind::PType, 1);
     combine(excitations, &n0, &c0, &p1, &c1);
 }
 

@@ -1,6 +1,5 @@
 -- `connections::connected_lanes` meets its contract: the marks stand for connections, and a sweep sets a new one unless nothing was left to carry. Assumes nothing.
 use mathlib.Core.Path.{sym, ◌∙◌}
-use Rattle.excitations.specs.Conditions.{usable_lanes}
 use Rattle.excitations.proofs.Levels.{closed_still}
 use Rattle.excitations.proofs.Marks.{marks_start, marks_sweep, sweep_falls, marks_closed}
 use Rattle.connections.proofs.connected_lanes.Goals as goal

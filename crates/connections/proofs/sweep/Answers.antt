@@ -3,9 +3,8 @@ use native.Mathlib.Omega.{arith}
 use borrow.Author.Rules.{rules}
 use mathlib.Core.Path.{◌≡◌, refl, sym, ap, ◌∙◌}
 use mathlib.Core.List.{List}
-use Prim.Native.Nat.{ℕ, ◌+◌, ◌≤◌, ◌<◌, ◌-◌}
+use Prim.Native.Nat.{ℕ, ◌+◌, ◌≤◌, ◌<◌}
 use lib.ListN.{get_or}
-use borrow.Author.Tests.{eqb-true, eqb-false, not-true, not-false}
 use Rattle.ternary.specs.Lists.{all_below}
 use Rattle.net.specs.Limits.{most_vertices}
 use Rattle.net.specs.Graph.{no_edge, edge_at}
@@ -13,11 +12,11 @@ use Rattle.lanes.specs.Lanes.{level}
 use Rattle.excitations.specs.Sweeps.{sweep}
 use Rattle.excitations.proofs.Sweeps.{turned_below, carry_at}
 use Rattle.excitations.proofs.Levels.{level_first, level_all}
-use Rattle.excitations.proofs.Turns.{inner_by_flags, outer_first, outer_second, sweep-on, sweep_off, level-on, level_off, not_level}
+use Rattle.excitations.proofs.Turns.{inner_by_flags, outer_first, outer_second, sweep-on, sweep_off, level-on, level_off}
 use Rattle.net.specs.Classes.{inner}
-use mathlib.Core.Bool.{false}
+use mathlib.Core.Bool.{Bool, false, ◌&&◌}
 use Rattle.connections.proofs.sweep.Goals as goal
-use Rattle.connections.proofs.sweep.Goals.{After-turned-i, Joined-wiring-u-eq1, else-wiring-u-eq1, then-wiring-u-eq1+then-wiring-v-eq1+else-not-carry, then-wiring-u-eq1+then-wiring-v-eq1+then-not-carry, else-wiring-u-eq1-via-then-wiring-u-eq1+else-wiring-v-eq1, else-wiring-u-eq1-via-else-wiring-u-eq1}
+use Rattle.connections.proofs.sweep.Goals.{After-turned-i, Joined-wiring-u-eq1, else-wiring-u-eq1, then-wiring-u-eq1+then-wiring-v-eq1, else-wiring-u-eq1-via-then-wiring-u-eq1+else-wiring-v-eq1, else-wiring-u-eq1-via-else-wiring-u-eq1}
 
 -- the edge whose turn it is
 in-net : (c : After-turned-i) → c.turned-i.result < c.args.wiring.now.net.edge_count
@@ -42,15 +41,10 @@ turn c =
     let swept = l.invariant.1 in
     let seen = ap (λ (r : List ℕ). level c.args.on.now i r (edge_at N i).end1 (edge_at N i).end2) (sym swept) in
     elim c.if-wiring-u-eq1.branch [
-      | then-wiring-u-eq1+then-wiring-v-eq1+then-not-carry w ↦
+      | then-wiring-u-eq1+then-wiring-v-eq1 w ↦
           let inside = inner_by_flags N i c.args.wiring.now.flags (ends (goal.at.Joined-wiring-u-eq1 c).After-turned-i).0 (ends (goal.at.Joined-wiring-u-eq1 c).After-turned-i).1 w.if-wiring-u-eq1.true w.if-wiring-v-eq1.true in (
-            w.marks-is ∙ w.carry.ensures.0 ∙ ap (carry_at N c.args.on.now i) swept ∙ sweep-on N i c.args.on.now c.args.marks.now c.args.back n e inside,
-            w.closed-is ∙ not_level N i c.args.on.now c.args.marks.now c.args.back n e inside (seen ∙ sym w.carry.ensures.1 ∙ w.if-not-carry.true),
-          )
-      | then-wiring-u-eq1+then-wiring-v-eq1+else-not-carry w ↦
-          let inside = inner_by_flags N i c.args.wiring.now.flags (ends (goal.at.Joined-wiring-u-eq1 c).After-turned-i).0 (ends (goal.at.Joined-wiring-u-eq1 c).After-turned-i).1 w.if-wiring-u-eq1.true w.if-wiring-v-eq1.true in (
-            w.marks-is ∙ w.carry.ensures.0 ∙ ap (carry_at N c.args.on.now i) swept ∙ sweep-on N i c.args.on.now c.args.marks.now c.args.back n e inside,
-            w.closed-is ∙ level-on N i c.args.on.now c.args.marks.now c.args.back n e l.invariant.2 (seen ∙ sym w.carry.ensures.1 ∙ w.if-not-carry.false),
+            w.marks-is ∙ w.carry-closed.ensures.0 ∙ ap (carry_at N c.args.on.now i) swept ∙ sweep-on N i c.args.on.now c.args.marks.now c.args.back n e inside,
+            w.closed-is ∙ ap (λ (b : Bool). l.closed && b) (w.carry-closed.ensures.1 ∙ sym seen) ∙ level-on N i c.args.on.now c.args.marks.now c.args.back n e l.invariant.2 inside,
           )
       | else-wiring-u-eq1 w ↦
           let outside : inner N (edge_at N i) ≡ false =
@@ -85,9 +79,9 @@ overflow_cast-v c = omega (arith, ends (goal.at.overflow_cast-v c).After-turned-
 pub bounds-wiring-v : goal.bounds-wiring-v
 bounds-wiring-v c = omega (arith, ends (goal.at.bounds-wiring-v c).After-turned-i)
 
-pub carry-requires : goal.carry-requires
-carry-requires c =
-    ((ends (goal.at.carry-requires c).After-turned-i).0, (ends (goal.at.carry-requires c).After-turned-i).1, omega (arith, in-net (goal.at.carry-requires c).After-turned-i, c.args.wiring.now.fit.readable.edges))
+pub carry-closed-requires : goal.carry-closed-requires
+carry-closed-requires c =
+    ((ends (goal.at.carry-closed-requires c).After-turned-i).0, (ends (goal.at.carry-closed-requires c).After-turned-i).1, omega (arith, in-net (goal.at.carry-closed-requires c).After-turned-i, c.args.wiring.now.fit.readable.edges))
 
 pub loop-n-preserved : goal.loop-n-preserved
 loop-n-preserved c = (search rules, (turn (goal.at.loop-n-preserved c).Joined-wiring-u-eq1).0, (turn (goal.at.loop-n-preserved c).Joined-wiring-u-eq1).1)

@@ -2,7 +2,7 @@
 use native.Mathlib.Omega.{arith}
 use borrow.Author.Rules.{rules}
 use mathlib.Core.Path.{sym}
-use Prim.Native.Nat.{ℕ, suc, ◌*◌, ◌-◌}
+use Prim.Native.Nat.{ℕ, suc, ◌*◌}
 use Rattle.ternary.proofs.BitLaws.{bit_shift}
 use Rattle.net.specs.Limits.{most_signals}
 use Rattle.net.proofs.Filling.{fill_zeros, fill_step, fill_all}

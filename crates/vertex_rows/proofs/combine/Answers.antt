@@ -1,6 +1,5 @@
 -- `vertex_rows::combine` meets its contract: the entries before i are stored. Assumes nothing.
 use native.Mathlib.Omega.{arith}
-use Prim.Native.Nat.{◌-◌}
 use Rattle.net.proofs.Filling.{fill_all}
 use Rattle.vertex_rows.proofs.combine.Goals as goal
 

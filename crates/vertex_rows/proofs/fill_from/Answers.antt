@@ -6,4 +6,4 @@ use Rattle.vertex_rows.proofs.fill_from.Goals as goal
 pub returns : goal.returns
 returns c =
     c.combine.ensures
-    ∙ excitations_of _ _ _ _ _ c.connected_lanes-n0.ensures c.connected_lanes-c0.ensures c.connected_lanes-p1.ensures c.connected_lanes-c1.ensures
+    ∙ excitations_of _ _ _ _ _ c.connected_lanes-3.ensures c.connected_lanes.ensures c.connected_lanes-4.ensures c.connected_lanes-2.ensures

@@ -2,7 +2,7 @@
 use native.Mathlib.Omega.{arith}
 use mathlib.Core.Path.{ap, ◌∙◌}
 use mathlib.Core.List.{List}
-use Prim.Native.Nat.{ℕ, ◌-◌}
+use Prim.Native.Nat.{ℕ}
 use Rattle.lanes.specs.Grid.{set_row}
 use Rattle.lanes.specs.Lanes.{assignments, lane, chosen, choose_row}
 use Rattle.lanes.proofs.GridLaws.{row_end}

@@ -2,7 +2,6 @@
 use native.Mathlib.Omega.{arith}
 use borrow.Author.Rules.{rules}
 use mathlib.Core.Path.{◌≡◌, refl}
-use Prim.Native.Nat.{◌-◌}
 use Rattle.ternary.specs.Lists.{any_below}
 use Rattle.ternary.proofs.BitLaws.{any_noted}
 use Rattle.lanes.specs.Lanes.{assignments}
