@@ -75,7 +75,7 @@ pub(crate) fn is_level<'a>(marks: &'a [u8], u: u8, v: u8, on: &'a [u8], i: usize
     let edge = i * Net::ASSIGNMENTS;
     let mut found: u8 = 0;
     for w in 0..Net::ASSIGNMENTS {
-        found = found | gap(on[edge + w], marks[first + w], marks[second + w]);
+        found |= gap(on[edge + w], marks[first + w], marks[second + w]);
     }
     found == 0
 }

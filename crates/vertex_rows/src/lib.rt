@@ -12,16 +12,13 @@ ghost use Rattle.excitations.specs.Excitations.{excitation_lanes};
 
 use excitations::Wiring;
 use net::{Kind, Net};
+use std::array;
 
 // Row p holds bit p of each assignment.
 fn columns() -> [u8; Net::COLUMN_LANES]
     ensures { result ≡ lane-spec.columns }
 {
-    let mut bits = [0u8; Net::COLUMN_LANES];
-    for i in 0..Net::COLUMN_LANES {
-        bits[i] = (((i % Net::ASSIGNMENTS) >> (i / Net::ASSIGNMENTS)) % 2) as u8;
-    }
-    bits
+    array::from_fn(|i| (((i % Net::ASSIGNMENTS) >> (i / Net::ASSIGNMENTS)) % 2) as u8)
 }
 
 // n0, c0: an n-connection, a connection to 0. p1, c1: a p-connection, a connection to 1.
