@@ -7,13 +7,11 @@ ghost use Rattle.lanes.specs.Lanes as spec;
 use net::Net;
 
 // A mark is set where the edge is on and the mark it comes from is set.
+#[tactic(auto, unfolding(lanes::specs::Lanes::raised))]
 fn raised(on: u8, from: u8, mark: u8) -> u8
     ensures { result ≡ spec.raised on from mark }
 {
-    if on != 1 {
-        return mark;
-    }
-    if from == 1 { 1 } else { mark }
+    if on == 1 && from == 1 { 1 } else { mark }
 }
 
 // Row v of the marks is set where edge i is on and column p chooses 1.
@@ -59,10 +57,7 @@ pub(crate) fn raise_row<'a, 'b>(marks: &'a mut [u8], u: u8, v: u8, on: &'b [u8],
 fn gap(on: u8, x: u8, y: u8) -> u8
     ensures { result ≡ digit (eqb on 1 && not (eqb x y)) }
 {
-    if on != 1 {
-        return 0;
-    }
-    if x == y { 0 } else { 1 }
+    u8::from(on == 1 && x != y)
 }
 
 // Do rows u and v have the same marks wherever edge i is on? Every lane is looked at: the loop has no branch.

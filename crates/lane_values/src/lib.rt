@@ -5,6 +5,7 @@ ghost use Rattle.std.specs.Prelude.{◌≡◌, ◌<◌};
 ghost use Rattle.lanes.specs.Lanes as spec;
 
 // By a bit, one of two values.
+#[tactic(auto, unfolding(lanes::specs::Lanes::chosen))]
 pub fn chosen(low: u8, high: u8, bit: u8) -> u8
     ensures { result ≡ spec.chosen low high bit }
 {
