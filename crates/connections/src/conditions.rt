@@ -52,10 +52,10 @@ fn usable_at(kind: Kind, form: u8, symbol: u16, bit: u8) -> u8
 }
 
 // Row v, which is an edge's and no vertex's, takes one of two values, by column p.
-fn choose_row<'a>(
-    rows: &'a mut [u8],
+fn choose_row(
+    rows: &mut [u8],
     v: usize,
-    columns: &'a [u8; Net::COLUMN_LANES],
+    columns: &[u8; Net::COLUMN_LANES],
     p: usize,
     low: u8,
     high: u8,
@@ -71,13 +71,9 @@ fn choose_row<'a>(
 }
 
 // 1 where a connection of a kind may use an edge, at each assignment of the signals of the component that the edge touches. The table comes as zeros.
-pub(crate) fn usable_lanes<'a, 'b>(
-    on: &'a mut [u8; Net::EDGE_LANES],
-    wiring: &'b Wiring,
-    kind: Kind,
-)
+pub(crate) fn usable_lanes(on: &mut [u8; Net::EDGE_LANES], wiring: &Wiring, kind: Kind)
     requires { on.old ≡ replicate (most_edges * lane-spec.assignments) 0 }
-    ensures { on.new ≡ usable_lanes wiring.now.net kind }
+    ensures { on.new ≡ usable_lanes wiring.now.net.now kind }
 {
     let count = wiring.net.edge_count as usize;
     for i in 0..count {
@@ -87,7 +83,7 @@ pub(crate) fn usable_lanes<'a, 'b>(
             let p = wiring.places[y as usize * Symbol::BOUND + edge.symbol as usize];
             let low = usable_at(kind, edge.form, edge.symbol, 0);
             let high = usable_at(kind, edge.form, edge.symbol, 1);
-            choose_row(on, i, &wiring.columns, p as usize, low, high);
+            choose_row(on, i, wiring.columns, p as usize, low, high);
         }
     }
 }

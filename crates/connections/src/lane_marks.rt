@@ -15,12 +15,12 @@ fn raised(on: u8, from: u8, mark: u8) -> u8
 }
 
 // Row v of the marks is set where edge i is on and column p chooses 1.
-pub(crate) fn mark_row<'a>(
-    marks: &'a mut [u8],
+pub(crate) fn mark_row(
+    marks: &mut [u8],
     v: u8,
-    on: &'a [u8],
+    on: &[u8],
     i: usize,
-    columns: &'a [u8; Net::COLUMN_LANES],
+    columns: &[u8; Net::COLUMN_LANES],
     p: usize,
     low: u8,
     high: u8,
@@ -41,7 +41,7 @@ pub(crate) fn mark_row<'a>(
 }
 
 // Row v of the marks is set where edge i is on and row u is set.
-pub(crate) fn raise_row<'a, 'b>(marks: &'a mut [u8], u: u8, v: u8, on: &'b [u8], i: usize)
+pub(crate) fn raise_row(marks: &mut [u8], u: u8, v: u8, on: &[u8], i: usize)
     requires { (suc u * spec.assignments ≤ length marks.old) × (suc v * spec.assignments ≤ length marks.old) × (suc i * spec.assignments ≤ length on.now) }
     ensures { marks.new ≡ spec.raise_row on.now i u v marks.old }
 {
@@ -61,7 +61,7 @@ fn gap(on: u8, x: u8, y: u8) -> u8
 }
 
 // Do rows u and v have the same marks wherever edge i is on? Every lane is looked at: the loop has no branch.
-pub(crate) fn is_level<'a>(marks: &'a [u8], u: u8, v: u8, on: &'a [u8], i: usize) -> bool
+pub(crate) fn is_level(marks: &[u8], u: u8, v: u8, on: &[u8], i: usize) -> bool
     requires { (suc u * spec.assignments ≤ length marks.now) × (suc v * spec.assignments ≤ length marks.now) × (suc i * spec.assignments ≤ length on.now) }
     ensures { result ≡ spec.level on.now i marks.now u v }
 {

@@ -24,14 +24,14 @@ fn label_hits(label: u16, bit: u8, value: u8) -> u8
 }
 
 // Marks where an edge that is on joins a storage vertex to an input vertex of the value. The table comes as zeros.
-fn driven<'a, 'b>(
-    marks: &'a mut [u8; Net::VERTEX_LANES],
-    wiring: &'b Wiring,
-    on: &'b [u8; Net::EDGE_LANES],
+fn driven(
+    marks: &mut [u8; Net::VERTEX_LANES],
+    wiring: &Wiring,
+    on: &[u8; Net::EDGE_LANES],
     value: u8,
 )
     requires { marks.old ≡ replicate (suc most_vertices * lane-spec.assignments) 0 }
-    ensures { marks.new ≡ spec.driven_lanes wiring.now.net on.now value }
+    ensures { marks.new ≡ spec.driven_lanes wiring.now.net.now on.now value }
 {
     let count = wiring.net.edge_count as usize;
     for i in 0..count {
@@ -44,18 +44,18 @@ fn driven<'a, 'b>(
             let p = wiring.places[y as usize * Symbol::BOUND + label as usize];
             let low = label_hits(label, 0, value);
             let high = label_hits(label, 1, value);
-            lane_marks::mark_row(marks, y, on, i, &wiring.columns, p as usize, low, high);
+            lane_marks::mark_row(marks, y, on, i, wiring.columns, p as usize, low, high);
         }
     }
 }
 
 // Edge i between u and v, where it is on, carries the mark of either end to the other. Was there nothing to carry? Mostly so, and the test costs less
 // than carrying.
-fn carry<'a, 'b>(
-    marks: &'a mut [u8; Net::VERTEX_LANES],
+fn carry(
+    marks: &mut [u8; Net::VERTEX_LANES],
     u: u8,
     v: u8,
-    on: &'b [u8; Net::EDGE_LANES],
+    on: &[u8; Net::EDGE_LANES],
     i: usize,
 ) -> bool
     requires { (u ≤ most_vertices) × (v ≤ most_vertices) × (i < most_edges) }
@@ -78,13 +78,13 @@ fn turned(back: bool, count: usize, n: usize) -> usize
 }
 
 // The edges between storage vertices carry, one after the other. Was there nothing to carry?
-fn sweep<'a, 'b>(
-    marks: &'a mut [u8; Net::VERTEX_LANES],
-    wiring: &'b Wiring,
-    on: &'b [u8; Net::EDGE_LANES],
+fn sweep(
+    marks: &mut [u8; Net::VERTEX_LANES],
+    wiring: &Wiring,
+    on: &[u8; Net::EDGE_LANES],
     back: bool,
 ) -> bool
-    ensures { (marks.new ≡ spec.sweep wiring.now.net on.now back wiring.now.net.edge_count marks.old) × (result ≡ spec.is_closed wiring.now.net on.now marks.old) }
+    ensures { (marks.new ≡ spec.sweep wiring.now.net.now on.now back wiring.now.net.now.edge_count marks.old) × (result ≡ spec.is_closed wiring.now.net.now on.now marks.old) }
 {
     let count = wiring.net.edge_count as usize;
     let mut closed = true;
@@ -101,14 +101,9 @@ fn sweep<'a, 'b>(
 }
 
 // 1 where a storage vertex has a connection of a kind to an input vertex of the value. The table comes as zeros: one that is returned is copied twice.
-pub fn connected_lanes<'a, 'b>(
-    marks: &'a mut [u8; Net::VERTEX_LANES],
-    wiring: &'b Wiring,
-    kind: Kind,
-    value: u8,
-)
+pub fn connected_lanes(marks: &mut [u8; Net::VERTEX_LANES], wiring: &Wiring, kind: Kind, value: u8)
     requires { marks.old ≡ replicate (suc most_vertices * lane-spec.assignments) 0 }
-    ensures { marks.new ≡ connected_lanes wiring.now.net kind value }
+    ensures { marks.new ≡ connected_lanes wiring.now.net.now kind value }
 {
     let mut on = [0u8; Net::EDGE_LANES];
     conditions::usable_lanes(&mut on, wiring, kind);

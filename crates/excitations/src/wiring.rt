@@ -9,15 +9,15 @@ use net::Net;
 
 // A net, its flags of storage vertices, the labels of its input vertices, the places of its signals, and the columns of bits.
 #[derive(Clone, Copy)]
-pub struct Wiring {
-    pub net: Net,
-    pub storage: [u8; Net::VERTEX_PLACES],
-    pub inputs: [u16; Net::VERTEX_PLACES],
-    pub places: [u8; Net::SYMBOL_PLACES],
-    pub columns: [u8; Net::COLUMN_LANES],
-    ghost fit: { Fit net },
-    ghost flags: { storage ≡ storage_flags net },
-    ghost labelled: { inputs ≡ input_labels net },
-    ghost placed: { places ≡ signal_places net },
-    ghost listed: { columns ≡ lane-spec.columns },
+pub struct Wiring<'a> {
+    pub net: &'a Net,
+    pub storage: &'a [u8; Net::VERTEX_PLACES],
+    pub inputs: &'a [u16; Net::VERTEX_PLACES],
+    pub places: &'a [u8; Net::SYMBOL_PLACES],
+    pub columns: &'a [u8; Net::COLUMN_LANES],
+    ghost fit: { Fit net.now },
+    ghost flags: { storage.now ≡ storage_flags net.now },
+    ghost labelled: { inputs.now ≡ input_labels net.now },
+    ghost placed: { places.now ≡ signal_places net.now },
+    ghost listed: { columns.now ≡ lane-spec.columns },
 }

@@ -41,12 +41,12 @@ fn excited(n0: u8, c0: u8, p1: u8, c1: u8) -> u8
 }
 
 // The excitations that four tables of connections give, lane by lane.
-fn combine<'a, 'b>(
-    excitations: &'a mut [u8; Net::VERTEX_LANES],
-    n0: &'b [u8; Net::VERTEX_LANES],
-    c0: &'b [u8; Net::VERTEX_LANES],
-    p1: &'b [u8; Net::VERTEX_LANES],
-    c1: &'b [u8; Net::VERTEX_LANES],
+fn combine(
+    excitations: &mut [u8; Net::VERTEX_LANES],
+    n0: &[u8; Net::VERTEX_LANES],
+    c0: &[u8; Net::VERTEX_LANES],
+    p1: &[u8; Net::VERTEX_LANES],
+    c1: &[u8; Net::VERTEX_LANES],
 )
     requires { length excitations.old ≡ suc most_vertices * assignments }
     ensures { excitations.new ≡ table (suc most_vertices * assignments) (λ i. excitation_of (eqb (get_or n0.now i 0) 1) (eqb (get_or c0.now i 0) 1) (eqb (get_or p1.now i 0) 1) (eqb (get_or c1.now i 0) 1)) }
@@ -57,9 +57,9 @@ fn combine<'a, 'b>(
 }
 
 // The table, from what the walks read.
-fn fill_from<'a, 'b>(wiring: &'b Wiring, excitations: &'a mut [u8; Net::VERTEX_LANES])
+fn fill_from(wiring: &Wiring, excitations: &mut [u8; Net::VERTEX_LANES])
     requires { length excitations.old ≡ suc most_vertices * assignments }
-    ensures { excitations.new ≡ excitation_lanes wiring.now.net }
+    ensures { excitations.new ≡ excitation_lanes wiring.now.net.now }
 {
     let mut c0 = [0u8; Net::VERTEX_LANES];
     connections::connected_lanes(&mut c0, wiring, Kind::Any, 0);
@@ -73,18 +73,21 @@ fn fill_from<'a, 'b>(wiring: &'b Wiring, excitations: &'a mut [u8; Net::VERTEX_L
 }
 
 // The excitations of every storage vertex, at every assignment of its component's signals.
-pub fn fill<'a>(net: Net, excitations: &'a mut [u8; Net::VERTEX_LANES])
+pub fn fill(net: Net, excitations: &mut [u8; Net::VERTEX_LANES])
     requires { Fit net × (length excitations.old ≡ suc most_vertices * assignments) }
     ensures { excitations.new ≡ excitation_lanes net }
 {
     let storage = graph::storage_flags(net);
     let labels = component_labels::component_labels(net, &storage);
+    let inputs = signals::input_labels(net);
+    let places = signal_places::signal_places(net, &storage, &labels);
+    let columns = columns();
     let wiring = Wiring {
-        net,
-        storage,
-        inputs: signals::input_labels(net),
-        places: signal_places::signal_places(net, &storage, &labels),
-        columns: columns(),
+        net: &net,
+        storage: &storage,
+        inputs: &inputs,
+        places: &places,
+        columns: &columns,
     };
     fill_from(&wiring, excitations);
 }

@@ -11,16 +11,16 @@ pub loop-on-smaller : goal.loop-on-smaller
 loop-on-smaller c =
     let e = c.usable_lanes.ensures in
     rw (c.sweep.ensures.0, e)
-    (sweep_falls c.args.wiring.now.net c.args.wiring.now.fit.readable c.args.kind c.args.value c.loop-on.back (c.loop-on.invariant c.args.kind e)
+    (sweep_falls c.args.wiring.now.net.now c.args.wiring.now.fit.readable c.args.kind c.args.value c.loop-on.back (c.loop-on.invariant c.args.kind e)
     (rw e at (sym c.sweep.ensures.1 ∙ c.loop-on-test.true)))
 
 pub loop-on-preserved : goal.loop-on-preserved
 loop-on-preserved c =
-    λ k e. rw (c.sweep.ensures.0, e) (marks_sweep c.args.wiring.now.net c.args.wiring.now.fit.readable k c.args.value c.loop-on.back (c.loop-on.invariant k e))
+    λ k e. rw (c.sweep.ensures.0, e) (marks_sweep c.args.wiring.now.net.now c.args.wiring.now.fit.readable k c.args.value c.loop-on.back (c.loop-on.invariant k e))
 
 pub returns : goal.returns
 returns c =
     let e = c.usable_lanes.ensures in
     let closed = sym c.sweep.ensures.1 ∙ c.loop-on-test.false in
-    c.sweep.ensures.0 ∙ closed_still c.args.wiring.now.net _ c.loop-on.back _ closed
-    ∙ marks_closed c.args.wiring.now.net c.args.wiring.now.fit.readable c.args.kind c.args.value (c.loop-on.invariant c.args.kind e) (rw e at closed)
+    c.sweep.ensures.0 ∙ closed_still c.args.wiring.now.net.now _ c.loop-on.back _ closed
+    ∙ marks_closed c.args.wiring.now.net.now c.args.wiring.now.fit.readable c.args.kind c.args.value (c.loop-on.invariant c.args.kind e) (rw e at closed)

@@ -7,7 +7,7 @@ use Rattle.connections.proofs.connected_lanes.Given as goal
 
 -- the loop holds the edges that the kind may use, but not the kind
 abbrev pub invariant-loop-on : goal.invariant-loop-on
-invariant-loop-on l = (k : Kind) → l.on ≡ usable_lanes l.wiring.net k → Marks l.wiring.net k l.value l.marks
+invariant-loop-on l = (k : Kind) → l.on ≡ usable_lanes l.wiring.net.now k → Marks l.wiring.net.now k l.value l.marks
 
 abbrev pub decreases-loop-on : goal.decreases-loop-on
 decreases-loop-on l = unset l.marks

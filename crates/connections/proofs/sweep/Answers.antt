@@ -19,22 +19,22 @@ use Rattle.connections.proofs.sweep.Goals as goal
 use Rattle.connections.proofs.sweep.Goals.{After-turned-i, Joined-wiring-u-eq1, else-wiring-u-eq1, then-wiring-u-eq1+then-wiring-v-eq1, else-wiring-u-eq1-via-then-wiring-u-eq1+else-wiring-v-eq1, else-wiring-u-eq1-via-else-wiring-u-eq1}
 
 -- the edge whose turn it is
-in-net : (c : After-turned-i) → c.turned-i.result < c.args.wiring.now.net.edge_count
+in-net : (c : After-turned-i) → c.turned-i.result < c.args.wiring.now.net.now.edge_count
 in-net c = rw c.turned-i.ensures (turned_below c.args.back _ _ c.loop-n-test.true)
 
 -- its ends
-ends : (c : After-turned-i) → (let e = get_or c.args.wiring.now.net.edges c.turned-i.result no_edge in (e.end1 ≤ most_vertices) × (e.end2 ≤ most_vertices))
+ends : (c : After-turned-i) → (let e = get_or c.args.wiring.now.net.now.edges c.turned-i.result no_edge in (e.end1 ≤ most_vertices) × (e.end2 ≤ most_vertices))
 unfolding edge_at
 ends c = let r = c.args.wiring.now.fit.readable in (r.first_end c.turned-i.result (in-net c), r.second_end c.turned-i.result (in-net c))
 
 -- what a turn makes of the marks, and whether the edges so far were level
 turn : (c : Joined-wiring-u-eq1) → (let n = c.loop-n.n in
-    (c.if-wiring-u-eq1.marks ≡ sweep c.args.wiring.now.net c.args.on.now c.args.back (n + 1) c.args.marks.now)
-    × (c.if-wiring-u-eq1.closed ≡ level_first c.args.wiring.now.net c.args.on.now c.args.back c.args.marks.now (n + 1)))
+    (c.if-wiring-u-eq1.marks ≡ sweep c.args.wiring.now.net.now c.args.on.now c.args.back (n + 1) c.args.marks.now)
+    × (c.if-wiring-u-eq1.closed ≡ level_first c.args.wiring.now.net.now c.args.on.now c.args.back c.args.marks.now (n + 1)))
 unfolding edge_at
 turn c =
     let l = c.loop-n in
-    let N = c.args.wiring.now.net in
+    let N = c.args.wiring.now.net.now in
     let i = c.turned-i.result in
     let e = c.turned-i.ensures in
     let n = l.n in
@@ -88,7 +88,7 @@ loop-n-preserved c = (search rules, (turn (goal.at.loop-n-preserved c).Joined-wi
 
 pub returns : goal.returns
 returns c =
-    let q : c.loop-n.n ≡ c.args.wiring.now.net.edge_count = omega arith in (
+    let q : c.loop-n.n ≡ c.args.wiring.now.net.now.edge_count = omega arith in (
       rw q at c.loop-n.invariant.1,
       rw q at c.loop-n.invariant.2 ∙ level_all _ _ _ _,
     )

@@ -2,6 +2,6 @@
 use Rattle.net.proofs.TableLaws.{prepared}
 use Rattle.vertex_rows.proofs.fill.Goals as goal
 
-pub signal_places-requires : goal.signal_places-requires
-signal_places-requires c =
+pub signal_places-places-requires : goal.signal_places-places-requires
+signal_places-places-requires c =
     prepared _ c.requires.0.readable c.storage_flags-storage.ensures c.component_labels-labels.ensures

@@ -23,36 +23,36 @@ use Rattle.connections.proofs.conditions.usable_lanes.Goals as goal
 use Rattle.connections.proofs.conditions.usable_lanes.Goals.{After-chosen-y, In-loop-i, Then-wiring-y-eq1, then-wiring-y-eq1, else-wiring-y-eq1}
 
 -- the first end of edge i, and its symbol
-edge-known : (c : In-loop-i) → (let e = get_or c.args.wiring.now.net.edges c.loop-i.i no_edge in (e.end1 ≤ most_vertices) × (e.symbol < symbol_bound))
+edge-known : (c : In-loop-i) → (let e = get_or c.args.wiring.now.net.now.edges c.loop-i.i no_edge in (e.end1 ≤ most_vertices) × (e.symbol < symbol_bound))
 unfolding edge_at
 edge-known c = let fit = c.args.wiring.now.fit in (fit.readable.first_end c.loop-i.i c.loop-i-test.true, symbol_bound_lem _ fit.known c.loop-i.i c.loop-i-test.true)
 
 -- the end that is chosen
-owned : (c : After-chosen-y) → (let N = c.args.wiring.now.net in c.chosen-y.result ≡ owner N (edge_at N c.loop-i.i))
+owned : (c : After-chosen-y) → (let N = c.args.wiring.now.net.now in c.chosen-y.result ≡ owner N (edge_at N c.loop-i.i))
 unfolding edge_at
 owned c =
-    c.chosen-y.ensures ∙ owner-chosen c.args.wiring.now.net c.args.wiring.now.storage c.args.wiring.now.flags _ (edge-known (goal.at.After-chosen-y c).In-loop-i).0
+    c.chosen-y.ensures ∙ owner-chosen c.args.wiring.now.net.now c.args.wiring.now.storage.now c.args.wiring.now.flags _ (edge-known (goal.at.After-chosen-y c).In-loop-i).0
 
 in_table : (c : After-chosen-y) → c.chosen-y.result ≤ most_vertices
 in_table c =
     rw (owned c) (owner_range _ c.args.wiring.now.fit.readable c.loop-i.i c.loop-i-test.true)
 
 -- the flag that the loop tests
-storage : (c : After-chosen-y) → (let N = c.args.wiring.now.net in
-    is_storage N (owner N (edge_at N c.loop-i.i)) ≡ eqb (get_or c.args.wiring.now.storage c.chosen-y.result 0) 1)
+storage : (c : After-chosen-y) → (let N = c.args.wiring.now.net.now in
+    is_storage N (owner N (edge_at N c.loop-i.i)) ≡ eqb (get_or c.args.wiring.now.storage.now c.chosen-y.result 0) 1)
 storage c = rw (← owned c) (sym (storage_test _ _ c.args.wiring.now.flags c.chosen-y.result (in_table c)))
 
 -- the place of the symbol's signal
-place : (c : After-chosen-y) → (let N = c.args.wiring.now.net in let e = get_or N.edges c.loop-i.i no_edge in
-    is_storage N (owner N e) ≡ true → get_or c.args.wiring.now.places (c.chosen-y.result * symbol_bound + e.symbol) 0 ≡ signal_index N (owner N e) e.symbol)
+place : (c : After-chosen-y) → (let N = c.args.wiring.now.net.now in let e = get_or N.edges c.loop-i.i no_edge in
+    is_storage N (owner N e) ≡ true → get_or c.args.wiring.now.places.now (c.chosen-y.result * symbol_bound + e.symbol) 0 ≡ signal_index N (owner N e) e.symbol)
 unfolding edge_at
 place c sy =
-    ap (λ (places : List ℕ). get_or places (c.chosen-y.result * symbol_bound + (edge_at c.args.wiring.now.net c.loop-i.i).symbol) 0) c.args.wiring.now.placed
+    ap (λ (places : List ℕ). get_or places (c.chosen-y.result * symbol_bound + (edge_at c.args.wiring.now.net.now c.loop-i.i).symbol) 0) c.args.wiring.now.placed
     ∙ rw (owned c) (place_read _ _ _ sy (owner_range _ c.args.wiring.now.fit.readable c.loop-i.i c.loop-i-test.true) (edge-known (goal.at.After-chosen-y c).In-loop-i).1)
 
 -- it is a row of the columns
-place-few : (c : Then-wiring-y-eq1) → (let e = get_or c.args.wiring.now.net.edges c.loop-i.i no_edge in
-    get_or c.args.wiring.now.places (c.chosen-y.result * symbol_bound + e.symbol) 0 ≤ most_signals)
+place-few : (c : Then-wiring-y-eq1) → (let e = get_or c.args.wiring.now.net.now.edges c.loop-i.i no_edge in
+    get_or c.args.wiring.now.places.now (c.chosen-y.result * symbol_bound + e.symbol) 0 ≤ most_signals)
 unfolding edge_at
 place-few c =
     let sy = storage (goal.at.Then-wiring-y-eq1 c).After-chosen-y ∙ eq-eqb _ _ c.if-wiring-y-eq1.true in
@@ -87,12 +87,12 @@ loop-i-preserved c =
       elim c.if-wiring-y-eq1.branch [
         | then-wiring-y-eq1 w ↦
             let sy = storage (goal.at.loop-i-preserved c).After-chosen-y ∙ eq-eqb _ _ w.if-wiring-y-eq1.true in
-            w.on-is ∙ usable-step c.args.wiring.now.net c.args.kind c.args.wiring.now.fit i c.loop-i-test.true sy (place (goal.at.loop-i-preserved c).After-chosen-y sy) w.usable_at-low.ensures w.usable_at-high.ensures e w.choose_row.ensures
-        | else-wiring-y-eq1 w ↦ w.on-is ∙ usable_skip c.args.wiring.now.net c.args.kind i (storage (goal.at.loop-i-preserved c).After-chosen-y ∙ ne_eqb _ _ w.if-wiring-y-eq1.false) e
+            w.on-is ∙ usable-step c.args.wiring.now.net.now c.args.kind c.args.wiring.now.fit i c.loop-i-test.true sy (place (goal.at.loop-i-preserved c).After-chosen-y sy) w.usable_at-low.ensures w.usable_at-high.ensures e w.choose_row.ensures
+        | else-wiring-y-eq1 w ↦ w.on-is ∙ usable_skip c.args.wiring.now.net.now c.args.kind i (storage (goal.at.loop-i-preserved c).After-chosen-y ∙ ne_eqb _ _ w.if-wiring-y-eq1.false) e
       ],
     )
 
 pub returns : goal.returns
 returns c =
-    let q : c.loop-i.i ≡ c.args.wiring.now.net.edge_count = omega arith in
+    let q : c.loop-i.i ≡ c.args.wiring.now.net.now.edge_count = omega arith in
     rw q at c.loop-i.invariant.1 ∙ usable_all _ _
