@@ -77,14 +77,13 @@ pub fn fill(net: Net, excitations: &mut [u8; Net::VERTEX_LANES])
     requires { Fit net × (length excitations.old ≡ suc most_vertices * assignments) }
     ensures { excitations.new ≡ excitation_lanes net }
 {
-    let storage = graph::storage_flags(net);
-    let labels = component_labels::component_labels(net, &storage);
+    let graph = component_labels::graph(net);
     let inputs = signals::input_labels(net);
-    let places = signal_places::signal_places(net, &storage, &labels);
+    let places = signal_places::signal_places(&graph);
     let columns = columns();
     let wiring = Wiring {
-        net: &net,
-        storage: &storage,
+        net: &graph.net,
+        storage: &graph.storage,
         inputs: &inputs,
         places: &places,
         columns: &columns,
