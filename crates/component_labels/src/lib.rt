@@ -39,7 +39,7 @@ pub fn graph(net: Net) -> Graph
     }
 }
 
-// The lowest storage vertex that is labelled as y is; y itself where none is below it.
+// The lowest storage vertex that is labelled as y is; y itself where none is below it. It promises this for any two tables, so it takes no Graph.
 pub fn lowest_member<'a>(
     storage: &'a [u8; Net::VERTEX_PLACES],
     labels: &'a [u8; Net::VERTEX_PLACES],

@@ -3,7 +3,7 @@ use native.Mathlib.Omega.{arith}
 use borrow.Author.Rules.{rules}
 use borrow.Author.Tests.{eq-eqb, ne_eqb}
 use mathlib.Core.Path.{◌≡◌, ap, sym, ◌∙◌}
-use Prim.Native.Nat.{suc, ◌≤◌, ◌-◌, ◌<◌}
+use Prim.Native.Nat.{suc, ◌≤◌}
 use lib.Dec.{eqb}
 use lib.ListN.{length, get_or, take, length-take}
 use Rattle.net.specs.Limits.{most_vertices}
@@ -11,7 +11,7 @@ use Rattle.net.specs.Graph.{no_edge, edge_at}
 use Rattle.net.specs.Classes.{inner, merge, classes}
 use Rattle.net.specs.Tables.{component_labels}
 use Rattle.net.proofs.ClassTables.{classes-on, classes_off, length-classes}
-use Rattle.net.proofs.InUse.{edge_read, ends_read, in_use}
+use Rattle.net.proofs.InUse.{edge_read, ends_read}
 use Rattle.net.proofs.TableLaws.{inner_read}
 use Rattle.component_labels.proofs.component_labels.Goals as goal
 use Rattle.component_labels.proofs.component_labels.Goals.{After-both, In-loop-edge, else-both-eq1, then-both-eq1}

@@ -1,5 +1,4 @@
 -- `graph::storage_flags` meets its contract. Assumes nothing.
-use native.Mathlib.Omega.{arith}
 use borrow.Author.Rules.{rules}
 use mathlib.Core.Path.{sym, ap, ◌∙◌}
 use Rattle.ternary.specs.Bits.{digit}

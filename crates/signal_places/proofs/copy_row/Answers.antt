@@ -2,10 +2,10 @@
 use native.Mathlib.Omega.{arith}
 use lib.ListN.{get_or}
 use mathlib.Core.Path.{refl, ap, ◌∙◌}
-use Prim.Native.Nat.{ℕ, ◌+◌, ◌*◌, ◌-◌}
+use Prim.Native.Nat.{ℕ, ◌+◌, ◌*◌}
 use Rattle.net.specs.Symbols.{symbol_bound}
 use Rattle.lanes.specs.Grid.{cell}
-use Rattle.lanes.proofs.GridLaws.{RowFilled, row_end}
+use Rattle.lanes.proofs.GridLaws.{row_end}
 use Rattle.signal_places.proofs.copy_row.Goals as goal
 
 pub returns : goal.returns

@@ -2,8 +2,8 @@
 use native.Mathlib.Omega.{arith}
 use borrow.Author.Rules.{rules}
 use mathlib.Core.Path.{◌≡◌, ◌∙◌}
-use Prim.Native.Nat.{◌≤◌, ◌-◌}
-use lib.ListN.{get_or, length, take, length-take}
+use Prim.Native.Nat.{◌≤◌}
+use lib.ListN.{get_or, take, length-take}
 use Rattle.net.specs.Limits.{most_vertices}
 use Rattle.net.specs.Graph.{no_edge, edge_at}
 use Rattle.net.proofs.InUse.{edge_read, ends_read}

@@ -1,6 +1,5 @@
 -- `component_labels::classes::merge_classes` meets its contract: the labels before i are relabelled, the others as they were. Assumes nothing.
 use native.Mathlib.Omega.{arith}
-use Prim.Native.Nat.{◌-◌}
 use lib.ListN.{get_or}
 use Rattle.net.specs.Classes.{relabel, merge}
 use Rattle.net.proofs.Filling.{fill_map}
