@@ -8,7 +8,6 @@ ghost use Rattle.lookups.specs.Passing.{passes_by};
 ghost use Rattle.settlements.specs.Settle.{settlement};
 ghost use Rattle.settlements.specs.Passed.{settled_by};
 ghost use Rattle.settlements.specs.Batch.{job_count, pieces, job_width, answer_width, job_settlement, buffers, run_jobs};
-ghost use Rattle.settlements.specs.Numbers.{piece_end};
 ghost use Rattle.settlements.specs.Ready.{Ready};
 
 use lookups::LookUps;
@@ -56,34 +55,16 @@ fn job(net: Net, look_ups: &LookUps, line: &[u8], own: &mut [u8]) -> Settling
     settle(look_ups, asked, r, t)
 }
 
-// Where the piece that starts at `from` ends among so many bytes: a short last piece ends with them.
-fn piece_end(len: usize, from: usize) -> usize
-    requires { from ≤ len }
-    ensures { result ≡ piece_end len from }
-{
-    if len - from < Sheet::LINE_WIDTH {
-        return len;
-    }
-    from + Sheet::LINE_WIDTH
-}
-
-// All jobs in turn, each lent its own middle part of the results. `from`, `at` and `place` are where the next job's line, results and answer start.
+// All jobs in turn, each lent its own parts of the results and of the answers.
 pub fn run(net: Net, look_ups: &LookUps, lines: &[u8], results: &mut [u8], answers: &mut [u8])
     requires { let l = look_ups.now in Ready net l.count l.tables.now l.additions.now × (job_count lines.now * job_width net ≤ length results.old) × (job_count lines.now * answer_width ≤ length answers.old) }
     ensures { buffers results.new answers.new ≡ run_jobs net (pieces (job_count lines.now) lines.now) results.old answers.old }
 {
     let width = Settling::VECTORS * look_ups.count;
-    let mut from: usize = 0;
-    let mut at: usize = 0;
-    let mut place: usize = 0;
-    while from < lines.len() {
-        let to = piece_end(lines.len(), from);
-        let end = at + width;
-        let next = place + Settling::ANSWER_BYTES;
-        let answer = job(net, look_ups, &lines[from..to], &mut results[at..end]);
-        writing::write_answer(&mut answers[place..next], answer);
-        from = to;
-        at = end;
-        place = next;
+    for (i, line) in lines.chunks(Sheet::LINE_WIDTH).enumerate() {
+        let at = i * width;
+        let place = i * Settling::ANSWER_BYTES;
+        let answer = job(net, look_ups, line, &mut results[at..at + width]);
+        writing::write_answer(&mut answers[place..place + Settling::ANSWER_BYTES], answer);
     }
 }

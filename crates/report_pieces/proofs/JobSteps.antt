@@ -1,7 +1,7 @@
 -- The jobs of a piece: room for them, and their text by the batch's answer.
-use Prim.Native.Nat.{ℕ, ◌+◌, ◌-◌, ◌*◌, ◌≤◌}
+use Prim.Native.Nat.{ℕ, ◌-◌, ◌*◌, ◌≤◌}
 use native.Mathlib.Omega.{arith}
-use native.Mathlib.Nat.{mul-le-mul, add-mul, one-mul}
+use native.Mathlib.Nat.{mul-le-mul}
 use mathlib.Core.Path.{◌≡◌, sym, ap, ◌∙◌}
 use mathlib.Core.List.{List, ◌++◌}
 use mathlib.Core.Logic.{◌≢◌}
@@ -23,10 +23,6 @@ use Rattle.output.proofs.Lengths.{length-jobs}
 use Rattle.output.proofs.GoesOn.{runs_iff, batch_iff}
 use Rattle.output.proofs.Placed.{put_whole, put_none}
 use Rattle.report_pieces.specs.Pieces.{Ready}
-
--- where the part after part i begins
-pub one_more : (i w : ℕ) → (i + 1) * w ≡ i * w + w
-one_more i w = add-mul i 1 w ∙ ap (λ (x : ℕ). i * w + x) (one-mul w)
 
 -- ---- room
 

@@ -12,10 +12,6 @@ use Rattle.sheet.specs.Limits.{line_width}
 unfoldable pub state_number : ℕ → ℕ → ℕ → ℕ → ℕ → Option ℕ
 state_number L h A B q = cond (ltb A (2 ^ L) && ltb B (2 ^ L)) (cond (ltb q (2 ^ h)) None (Some 43)) (Some 42)
 
--- where the piece that starts at `from` ends among so many bytes: a short last piece ends with them
-unfoldable pub piece_end : ℕ → ℕ → ℕ
-piece_end len from = cond (ltb (len - from) line_width) len (from + line_width)
-
 -- 41 for a record that no accepted sheet gives, 31 with its place for one that breaks C1
 unfoldable pub net_refusal : Net → Option Answer
 net_refusal N = cond (valid N) (elim (place_c1 N) [ none ↦ None | some p ↦ Some (answer 31 p) ]) (Some (answer 41 0))

@@ -1,47 +1,57 @@
--- `run` meets its contract: the jobs before `from` are done. Of the places, t is the one where the piece's end is known, j after its job.
--- Assumes nothing.
-use Prim.Native.Nat.{◌+◌, ◌-◌, ◌*◌, ◌≤◌}
+-- `run` meets its contract: the jobs whose lines are not left are done. Assumes nothing.
+use Prim.Native.Nat.{ℕ, ◌+◌, ◌-◌, ◌*◌, ◌≤◌, min}
 use native.Mathlib.Omega.{arith}
+use native.Mathlib.Nat.{zero-mul}
+use mathlib.Core.Path.{◌≡◌, sym, ap, subst, ◌∙◌}
+use borrow.Author.Rules.{rules}
 use lib.ListN.{length}
 use Rattle.settlements.specs.Batch.{answer_width}
-use Rattle.settlements.proofs.PieceLaws.{Ends, piece-ends}
-use Rattle.settlements.proofs.JobsInTurn.{results_now, answers_now, step, finish}
+use Rattle.settlements.proofs.PieceLaws.{Taken}
+use Rattle.settlements.proofs.JobsInTurn.{one_more, start, results_now, answers_now, step, finish}
 use Rattle.batch_jobs.proofs.run.Goals as goal
-use Rattle.batch_jobs.proofs.run.Goals.{After-piece_end-to}
+use Rattle.batch_jobs.proofs.run.Goals.{In-Some}
 
--- where the piece at hand ends, and that both buffers have room for its job
-ends : (c : After-piece_end-to) → Ends c.args.lines.now c.loop-from.from c.piece_end-to.result
-ends c = rw c.piece_end-to.ensures (piece-ends _ _ c.loop-from-test.true)
+-- the line at hand is taken of those that are left
+taken : (c : In-Some) → Taken c.loop-i.i-iterator.iter.rest.now c.in-Some.line.now c.next.new.self.iter.rest.now
+taken c =
+    let n = c.in-Some.ensures.steps.0.1 in
+    record { parts = n.0; size = n.1 ∙ ap (λ (w : ℕ). min w (length c.loop-i.i-iterator.iter.rest.now)) c.loop-i.invariant.2; some = n.2 }
 
-results_fit : (c : After-piece_end-to) → c.loop-from.at + 2 * c.args.look_ups.now.count ≤ length c.loop-from.results
-results_fit c = let v = c.loop-from.invariant in results_now v.1 (ends c) v.0
-
-answers-fit : (c : After-piece_end-to) → c.loop-from.place + answer_width ≤ length c.loop-from.answers
-answers-fit c = answers_now c.loop-from.invariant.1 (ends c)
-
-pub slice_bounds-job-count : goal.slice_bounds-job-count
-slice_bounds-job-count c = omega (arith, (ends (goal.at.slice_bounds-job-count c).After-piece_end-to).after)
-
-pub slice_bounds-job-start : goal.slice_bounds-job-start
-slice_bounds-job-start c = omega (arith, (ends (goal.at.slice_bounds-job-start c).After-piece_end-to).after, (ends (goal.at.slice_bounds-job-start c).After-piece_end-to).within)
+pub loop-i-init : goal.loop-i-init
+loop-i-init c =
+    let gives = c.into_iter-i-iterator.ensures.into_iter_gives in
+    let source = c.enumerate-i-items.ensures.source in
+    (
+      search rules,
+      search rules,
+      rw (gives, source) c.chunks.ensures.size,
+      rw c.requires.0.keys,
+      rw (gives, source, c.enumerate-i-items.ensures.count, c.chunks.ensures.rest, zero-mul (2 * c.args.look_ups.now.count), zero-mul answer_width) (start _ _ _ _ c.requires.1 c.requires.2),
+    )
 
 pub slice_bounds-job-end : goal.slice_bounds-job-end
-slice_bounds-job-end c = (ends (goal.at.slice_bounds-job-end c).After-piece_end-to).within
-
-pub slice_bounds-job-end-in-loop-from : goal.slice_bounds-job-end-in-loop-from
-slice_bounds-job-end-in-loop-from c = results_fit (goal.at.slice_bounds-job-end-in-loop-from c).After-piece_end-to
+slice_bounds-job-end c =
+    let w = 2 * c.args.look_ups.now.count in
+    let v = c.loop-i.invariant in
+    subst (λ (n : ℕ). n * w + w ≤ length c.loop-i.results) (sym c.in-Some.ensures.steps.1) (results_now v.4 (taken (goal.at.slice_bounds-job-end c).In-Some) v.3)
 
 pub slice_bounds-write_answer-end : goal.slice_bounds-write_answer-end
-slice_bounds-write_answer-end c = answers-fit (goal.at.slice_bounds-write_answer-end c).After-piece_end-to
+slice_bounds-write_answer-end c = omega (arith, answers_now c.loop-i.invariant.4 (taken (goal.at.slice_bounds-write_answer-end c).In-Some), c.in-Some.ensures.steps.1)
 
-pub loop-from-smaller : goal.loop-from-smaller
-loop-from-smaller c =
-    omega (arith, (ends (goal.at.loop-from-smaller c).After-piece_end-to).after, (ends (goal.at.loop-from-smaller c).After-piece_end-to).within)
-
-pub loop-from-preserved : goal.loop-from-preserved
-loop-from-preserved c =
-    let v = c.loop-from.invariant in
-    (v.0, step v.1 (ends (goal.at.loop-from-preserved c).After-piece_end-to) v.0 _ _ _ c.job-answer.ensures c.write_answer.ensures)
+pub loop-i-preserved : goal.loop-i-preserved
+loop-i-preserved c =
+    let w = 2 * c.args.look_ups.now.count in
+    let i = c.in-Some.i in
+    let n = c.in-Some.ensures.steps in
+    let v = c.loop-i.invariant in
+    (
+      search rules,
+      search rules,
+      n.0.0 ∙ v.2,
+      v.3,
+      rw (n.2, ← n.1, one_more i w, one_more i answer_width)
+      (step (rw (← n.1) at v.4) (taken (goal.at.loop-i-preserved c).In-Some) v.3 _ _ _ c.job-answer.ensures c.write_answer.ensures),
+    )
 
 pub returns : goal.returns
-returns c = finish c.loop-from.invariant.1 c.loop-from-test.false
+returns c = finish c.loop-i.invariant.4 c.in-None.ensures.steps.0.1.0

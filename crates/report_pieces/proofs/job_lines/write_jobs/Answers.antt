@@ -4,7 +4,7 @@ use mathlib.Core.Path.{refl}
 use Rattle.settlements.specs.Batch.{answer_width}
 use Rattle.output.specs.Limits.{job_bytes}
 use Rattle.output.proofs.LinesInTurn.{step, finish}
-use Rattle.report_pieces.proofs.JobSteps.{one_more}
+use Rattle.settlements.proofs.JobsInTurn.{one_more}
 use Rattle.report_pieces.proofs.job_lines.write_jobs.Goals as goal
 
 pub loop-i-preserved : goal.loop-i-preserved
