@@ -17,12 +17,10 @@ fn read_lines(sheet: &[u8], gates: usize, letters: u8) -> Reading
     ensures { result ≡ gate_rest sheet.now gates 0 }
 {
     let mut net = building::outputs(gates, letters);
-    let mut at = GateSheet::LINE_WIDTH;
-    let mut g: usize = 0;
-    while g < gates {
+    for g in 0..gates {
+        let at = GateSheet::LINE_WIDTH * (1 + g);
         let end = at + GateSheet::LINE_WIDTH;
-        let Some(line) = line_values::read_line(&sheet[at..end], GateSheet::COLUMNS)
-        else {
+        let Some(line) = line_values::read_line(&sheet[at..end], GateSheet::COLUMNS) else {
             return sheet_readings::refusal(Answer::BAD_LINE, (g + 2) as u16);
         };
         let Some(gate) = lines::decode_gate(gates, letters, g, line) else {
@@ -30,8 +28,6 @@ fn read_lines(sheet: &[u8], gates: usize, letters: u8) -> Reading
         };
         let output = GateSheet::FIRST_OUTPUT as usize + g;
         net = building::add_gate(net, output as u8, gate);
-        at = end;
-        g += 1;
     }
     sheet_readings::concluded(net)
 }

@@ -33,9 +33,8 @@ fn read_lines(sheet: &[u8], columns: usize, start: Net, count: usize) -> Reading
 {
     let width = sheet::line_bytes(columns);
     let mut net = start;
-    let mut at = width;
-    let mut j: usize = 0;
-    while j < count {
+    for j in 0..count {
+        let at = width * (1 + j);
         let end = at + width;
         let Some(line) = line_values::read_line(&sheet[at..end], columns) else {
             return sheet_readings::refusal(Answer::BAD_LINE, (j + 2) as u16);
@@ -44,8 +43,6 @@ fn read_lines(sheet: &[u8], columns: usize, start: Net, count: usize) -> Reading
             return sheet_readings::refusal(body::refusal_of(net, j), (j + 2) as u16);
         };
         net = body::with_entry(net, j, entry);
-        at = end;
-        j += 1;
     }
     sheet_readings::concluded(net)
 }

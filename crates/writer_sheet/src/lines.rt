@@ -66,12 +66,10 @@ fn write_body(out: &mut [u8], columns: usize, net: Net)
 {
     let width = sheet::line_bytes(columns);
     let count = net.vertex_count as usize + net.edge_count as usize;
-    let mut at: usize = 0;
     for j in 0..count {
-        let line = body_line(net, j);
+        let at = width * j;
         let end = at + width;
-        line_values::write_line(&mut out[at..end], columns, line);
-        at = end;
+        line_values::write_line(&mut out[at..end], columns, body_line(net, j));
     }
 }
 

@@ -1,10 +1,11 @@
 -- To read what is left, with the gates so far in the record, gives the whole answer.
-use Prim.Native.Nat.{◌-◌}
+use Prim.Native.Nat.{◌+◌, ◌-◌, ◌*◌}
 use native.Mathlib.Omega.{arith}
 use mathlib.Core.Path.{◌≡◌, sym, ◌∙◌}
 use Rattle.std.specs.Prelude.{Some}
 use Rattle.sheet.specs.Line.{read_line, line_answer}
 use Rattle.sheet.proofs.ReaderSteps.{lent}
+use Rattle.sheet.proofs.WholeLines.{line_after}
 use Rattle.gates.specs.Limits.{gate_columns, gate_line_bytes}
 use Rattle.gates.specs.Building.{decode_gate}
 use Rattle.gates.proofs.GateRowLaws.{few_gates}
@@ -14,7 +15,7 @@ use Rattle.gates_reader.proofs.read_lines.Goals.{In-Some, In-Some-decode_gate}
 
 -- the line is five fields, and what it is decoded to where it is allowed
 five : (c : In-Some) →
-    line_answer (read_line gate_columns (lent gate_line_bytes c.args.sheet.now c.loop-g.at)) ≡ Some c.in-Some.line
+    line_answer (read_line gate_columns (lent gate_line_bytes c.args.sheet.now (gate_line_bytes * (1 + c.loop-g.g)))) ≡ Some c.in-Some.line
 five c = sym c.read_line.ensures ∙ c.in-Some.is
 
 gate-is : (c : In-Some-decode_gate) → let a = c.args in
@@ -26,6 +27,9 @@ outputs-net-requires c = let p = c.requires in rw p.1 (few_gates _ p.0)
 
 pub loop-g-init : goal.loop-g-init
 loop-g-init c = let p = c.requires in loop_starts _ _ _ _ p.0 p.1 p.2 c.outputs-net.ensures
+
+pub overflow_mul-at : goal.overflow_mul-at
+overflow_mul-at c = omega (arith, few_lines _ c.loop-g.invariant, c.loop-g-test.true)
 
 pub overflow_add-end : goal.overflow_add-end
 overflow_add-end c = let inv = c.loop-g.invariant in omega (arith, next-line _ inv c.loop-g-test.true)
@@ -66,7 +70,7 @@ add_gate-net-requires c =
 
 pub loop-g-preserved : goal.loop-g-preserved
 loop-g-preserved c =
-    rw c.add_gate-net.ensures (takes_gate _ c.loop-g.invariant c.loop-g-test.true _ (five (goal.at.loop-g-preserved c).In-Some) _ (gate-is (goal.at.loop-g-preserved c).In-Some-decode_gate))
+    rw (c.add_gate-net.ensures, ← line_after gate_line_bytes c.loop-g.g) (takes_gate _ c.loop-g.invariant c.loop-g-test.true _ (five (goal.at.loop-g-preserved c).In-Some) _ (gate-is (goal.at.loop-g-preserved c).In-Some-decode_gate))
 
 pub concluded-requires : goal.concluded-requires
 concluded-requires c = loop_checked _ c.loop-g.invariant c.loop-g-test.false

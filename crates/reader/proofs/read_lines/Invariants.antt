@@ -1,4 +1,4 @@
-use Prim.Native.Nat.{◌+◌, ◌-◌, ◌*◌, ◌≤◌}
+use Prim.Native.Nat.{◌+◌, ◌-◌, ◌*◌}
 use mathlib.Core.Path.{◌≡◌}
 use lib.ListN.{drop}
 use Rattle.sheet.specs.Limits.{line_bytes}
@@ -7,8 +7,5 @@ use Rattle.sheet.specs.Reading.{read_lines}
 use Rattle.reader.proofs.read_lines.Given as goal
 
 abbrev pub invariant-loop-j : goal.invariant-loop-j
-invariant-loop-j l = (l.j ≤ l.count) × (l.at ≡ line_bytes l.columns * (1 + l.j)) × (l.count ≡ l.net.vertex_count + l.net.edge_count) × SoFar l.net l.j
-    × (read_lines l.columns (l.count - l.j) (drop l.at l.sheet) l.j l.net ≡ read_lines l.columns l.count (drop (line_bytes l.columns) l.sheet) 0 l.initial.net)
-
-abbrev pub decreases-loop-j : goal.decreases-loop-j
-decreases-loop-j l = l.count - l.j
+invariant-loop-j l = (l.count ≡ l.net.vertex_count + l.net.edge_count) × SoFar l.net l.j
+    × (read_lines l.columns (l.count - l.j) (drop (line_bytes l.columns * (1 + l.j)) l.sheet) l.j l.net ≡ read_lines l.columns l.count (drop (line_bytes l.columns) l.sheet) 0 l.initial.net)

@@ -4,7 +4,6 @@ use native.Mathlib.Omega.{arith}
 use mathlib.Core.Path.{◌≡◌, refl, sym, ap, ◌∙◌}
 use mathlib.Core.List.{◌++◌}
 use lib.ListN.{length, drop}
-use Rattle.sheet.specs.Limits.{line_bytes}
 use Rattle.sheet.specs.Line.{write_line}
 use Rattle.sheet.specs.Writing.{header_line, write_in}
 use Rattle.sheet.proofs.LineLaws.{length-line}
