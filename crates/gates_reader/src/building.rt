@@ -1,6 +1,6 @@
 //! The record of gates, built by appending vertices and edges.
 
-ghost use Rattle.std.specs.Prelude.{◌≡◌, [], ◌∷◌, ◌+◌, ◌≤◌, ◌<◌};
+ghost use Rattle.std.specs.Prelude.{◌≡◌, ◌+◌, ◌≤◌, ◌<◌, length};
 ghost use Rattle.net.specs.Limits.{most_vertices, most_edges};
 ghost use Rattle.gates.specs.Limits.{most_gates};
 ghost use Rattle.gates.specs.Gates.{p_edge, n_edge};
@@ -31,44 +31,37 @@ fn append_edge(net: Net, e: Edge) -> Net
     next
 }
 
+fn append_edges(net: Net, edges: &[Edge]) -> Net
+    requires { net.edge_count + length edges.now ≤ most_edges }
+    ensures { result ≡ append_edges net edges.now }
+{
+    let mut next = net;
+    for edge in edges {
+        next = append_edge(next, *edge);
+    }
+    next
+}
+
 // A p edge has form 1.
-fn p_edge(from: u8, to: u8, symbol: u16) -> Edge
-    ensures { result ≡ p_edge from to symbol }
+fn p_edge(end1: u8, end2: u8, symbol: u16) -> Edge
+    ensures { result ≡ p_edge end1 end2 symbol }
 {
     Edge {
-        end1: from,
-        end2: to,
+        end1,
+        end2,
         form: 1,
         symbol,
     }
 }
 
-// An n edge has form 0.
-fn n_edge(from: u8, to: u8, symbol: u16) -> Edge
-    ensures { result ≡ n_edge from to symbol }
+// An n edge has form 0, and is else as a p edge.
+fn n_edge(end1: u8, end2: u8, symbol: u16) -> Edge
+    ensures { result ≡ n_edge end1 end2 symbol }
 {
     Edge {
-        end1: from,
-        end2: to,
         form: 0,
-        symbol,
+        ..p_edge(end1, end2, symbol)
     }
-}
-
-fn two_edges(net: Net, first: Edge, second: Edge) -> Net
-    requires { net.edge_count + 2 ≤ most_edges }
-    ensures { result ≡ append_edges net (first ∷ second ∷ []) }
-{
-    let one = append_edge(net, first);
-    append_edge(one, second)
-}
-
-fn four_edges(net: Net, first: Edge, second: Edge, third: Edge, fourth: Edge) -> Net
-    requires { net.edge_count + 4 ≤ most_edges }
-    ensures { result ≡ append_edges net (first ∷ second ∷ third ∷ fourth ∷ []) }
-{
-    let two = two_edges(net, first, second);
-    two_edges(two, third, fourth)
 }
 
 // A gate with its output: the p edges, then the n edges, the end nearer to the vertex that carries 1 first.
@@ -78,24 +71,30 @@ pub(crate) fn add_gate(net: Net, output: u8, gate: Gate) -> Net
 {
     let inner = net.vertex_count + 1;
     match gate {
-        Gate::Inverter(s) => two_edges(
+        Gate::Inverter(s) => append_edges(
             net,
-            p_edge(GateSheet::HIGH, output, s),
-            n_edge(output, GateSheet::LOW, s),
+            &[
+                p_edge(GateSheet::HIGH, output, s),
+                n_edge(output, GateSheet::LOW, s),
+            ],
         ),
-        Gate::Nand(s, t) => four_edges(
+        Gate::Nand(s, t) => append_edges(
             append_vertex(net, Vertex::STORAGE, 0),
-            p_edge(GateSheet::HIGH, output, s),
-            p_edge(GateSheet::HIGH, output, t),
-            n_edge(output, inner, s),
-            n_edge(inner, GateSheet::LOW, t),
+            &[
+                p_edge(GateSheet::HIGH, output, s),
+                p_edge(GateSheet::HIGH, output, t),
+                n_edge(output, inner, s),
+                n_edge(inner, GateSheet::LOW, t),
+            ],
         ),
-        Gate::Nor(s, t) => four_edges(
+        Gate::Nor(s, t) => append_edges(
             append_vertex(net, Vertex::STORAGE, 0),
-            p_edge(GateSheet::HIGH, inner, s),
-            p_edge(inner, output, t),
-            n_edge(output, GateSheet::LOW, s),
-            n_edge(output, GateSheet::LOW, t),
+            &[
+                p_edge(GateSheet::HIGH, inner, s),
+                p_edge(inner, output, t),
+                n_edge(output, GateSheet::LOW, s),
+                n_edge(output, GateSheet::LOW, t),
+            ],
         ),
     }
 }

@@ -5,14 +5,14 @@ use Rattle.gates_reader.proofs.building.add_gate.Goals as goal
 
 pub returns-in-Inverter : goal.returns-in-Inverter
 returns-in-Inverter c =
-    rw (c.two_edges.ensures, c.n_edge.ensures, c.p_edge.ensures) (inverter_added _ _ _ _ c.in-Inverter.is)
+    rw (c.append_edges.ensures, c.n_edge.ensures, c.p_edge.ensures) (inverter_added _ _ _ _ c.in-Inverter.is)
 
 pub returns-in-Nand : goal.returns-in-Nand
 returns-in-Nand c =
-    rw (c.four_edges.ensures, c.n_edge-in-Nand-2.ensures, c.n_edge-in-Nand.ensures, c.p_edge-in-Nand-2.ensures, c.p_edge-in-Nand.ensures, c.append_vertex.ensures)
+    rw (c.append_edges-in-Nand.ensures, c.n_edge-in-Nand-2.ensures, c.n_edge-in-Nand.ensures, c.p_edge-in-Nand-2.ensures, c.p_edge-in-Nand.ensures, c.append_vertex.ensures)
     (nand_added _ _ _ _ _ c.in-Nand.is)
 
 pub returns-in-Nor : goal.returns-in-Nor
 returns-in-Nor c =
-    rw (c.four_edges-in-Nor.ensures, c.n_edge-in-Nor-2.ensures, c.n_edge-in-Nor.ensures, c.p_edge-in-Nor-2.ensures, c.p_edge-in-Nor.ensures, c.append_vertex-in-Nor.ensures)
+    rw (c.append_edges-in-Nor.ensures, c.n_edge-in-Nor-2.ensures, c.n_edge-in-Nor.ensures, c.p_edge-in-Nor-2.ensures, c.p_edge-in-Nor.ensures, c.append_vertex-in-Nor.ensures)
     (nor_added _ _ _ _ _ c.in-Nor.is)

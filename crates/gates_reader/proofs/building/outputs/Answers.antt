@@ -1,5 +1,4 @@
 -- After g turns the record has the rails and g outputs.
-use Prim.Native.Nat.{◌-◌}
 use native.Mathlib.Omega.{arith}
 use Rattle.sheet.specs.Record.{start_net}
 use Rattle.gates.specs.Building.{outputs_of}
