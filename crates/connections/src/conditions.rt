@@ -16,8 +16,7 @@ pub(crate) fn symbol_at(symbol: Symbol, bit: u8) -> u8
 {
     match symbol {
         Symbol::Constant(c) => c,
-        Symbol::Letter(_) => bit,
-        Symbol::Vertex(_) => bit,
+        Symbol::Letter(_) | Symbol::Vertex(_) => bit,
         Symbol::Unknown => 0,
     }
 }
@@ -26,18 +25,10 @@ pub(crate) fn symbol_at(symbol: Symbol, bit: u8) -> u8
 fn admitted(kind: Kind, condition: Condition) -> u8
     ensures { result ≡ digit (admits kind condition) }
 {
-    match condition {
-        Condition::Open => 0,
-        Condition::NClosed => match kind {
-            Kind::Any => 1,
-            Kind::NType => 1,
-            Kind::PType => 0,
-        },
-        Condition::PClosed => match kind {
-            Kind::Any => 1,
-            Kind::NType => 0,
-            Kind::PType => 1,
-        },
+    match (condition, kind) {
+        (Condition::NClosed, Kind::Any | Kind::NType) => 1,
+        (Condition::PClosed, Kind::Any | Kind::PType) => 1,
+        _ => 0,
     }
 }
 

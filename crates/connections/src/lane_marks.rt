@@ -1,4 +1,5 @@
-//! Marks in rows of lanes: set, carried from row to row, and compared. Every lane of a row is treated alike. Definitions and laws are those of the crate `lanes`.
+//! Marks in rows of lanes: set, carried from row to row, and compared. Every lane of a row is treated alike, and a loop's
+//! number is the lane in several rows. Definitions and laws are those of the crate `lanes`.
 ghost use Rattle.std.specs.Prelude.{◌≡◌, ◌&&◌, not, suc, ◌≤◌, ◌*◌, eqb, length};
 ghost use Rattle.ternary.specs.Bits.{digit};
 ghost use Rattle.net.specs.Limits.{most_signals};

@@ -70,6 +70,7 @@ fn carry(
 }
 
 // The edge that comes as number n, where the edges are taken in their order or, if `back`, against it.
+#[tactic(auto, unfolding(excitations::specs::Sweeps::turned))]
 fn turned(back: bool, count: usize, n: usize) -> usize
     requires { n < count }
     ensures { result ≡ spec.turned back count n }
@@ -77,7 +78,8 @@ fn turned(back: bool, count: usize, n: usize) -> usize
     if back { count - 1 - n } else { n }
 }
 
-// The edges between storage vertices carry, one after the other. Was there nothing to carry?
+// The edges between storage vertices carry, one after the other. Was there nothing to carry? One loop takes either order: an iterator of each would make
+// two loops, or a contract about whatever a caller's iterator gives.
 fn sweep(
     marks: &mut [u8; Net::VERTEX_LANES],
     wiring: &Wiring,

@@ -1,7 +1,7 @@
 -- Excitations in lanes, from the tables of connections.
 use Prim.Native.Nat.{ℕ, suc, ◌*◌, ◌/◌, ◌%◌, ◌<◌}
-use mathlib.Core.Path.{◌≡◌, refl, ap, ◌∙◌}
-use mathlib.Core.Bool.{Bool, true, false, cond}
+use mathlib.Core.Path.{◌≡◌, ap, ◌∙◌}
+use mathlib.Core.Bool.{cond}
 use mathlib.Core.List.{List}
 use lib.Dec.{eqb}
 use lib.ListN.{get_or}
@@ -20,19 +20,6 @@ use Rattle.lanes.specs.Grid.{grid}
 use Rattle.lanes.specs.Lanes.{assignments}
 use Rattle.excitations.specs.Connections.{connected_at, connected_lanes}
 use Rattle.excitations.specs.Excitations.{excitation_lanes}
-
--- the tests in another order
-pub excitation_tests : (n0 c0 p1 c1 : Bool) → excitation_of n0 c0 p1 c1 ≡ cond c1 (cond c0 5 (cond p1 1 2)) (cond n0 0 (cond c0 2 (cond p1 1 3)))
-unfolding excitation_of
-excitation_tests n0 true true true = by_test n0 (λ e. rw e) (λ e. rw e)
-excitation_tests n0 true false true = by_test n0 (λ e. rw e) (λ e. rw e)
-excitation_tests n0 false true true = by_test n0 (λ e. rw e) (λ e. rw e)
-excitation_tests n0 false false true = by_test n0 (λ e. rw e) (λ e. rw e)
-excitation_tests true c0 p1 false = refl
-excitation_tests false true true false = refl
-excitation_tests false true false false = refl
-excitation_tests false false true false = refl
-excitation_tests false false false false = refl
 
 module _ (N : Net) where
   -- an entry of a table of connections, as a test

@@ -22,6 +22,7 @@ fn columns() -> [u8; Net::COLUMN_LANES]
 }
 
 // n0, c0: an n-connection, a connection to 0. p1, c1: a p-connection, a connection to 1.
+#[tactic(auto, unfolding(net::specs::Excitation::excitation_of))]
 fn excited(n0: u8, c0: u8, p1: u8, c1: u8) -> u8
     ensures { result ≡ excitation_of (eqb n0 1) (eqb c0 1) (eqb p1 1) (eqb c1 1) }
 {

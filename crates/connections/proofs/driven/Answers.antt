@@ -112,7 +112,7 @@ bounds-wiring-y-then-wiring-x-ne1 c = omega (arith, y-range (goal.at.bounds-wiri
 pub mark_row-requires : goal.mark_row-requires
 mark_row-requires c = (
   omega (arith, size (goal.at.mark_row-requires c).In-loop-i, y-range (goal.at.mark_row-requires c).After-chosen-y),
-  omega (arith, c.mark_row-arg-then-wiring-x-ne1-1.given, c.args.wiring.now.fit.readable.edges),
+  omega (arith, c.args.wiring.now.fit.readable.edges),
   place-few (goal.at.mark_row-requires c).Then-wiring-x-ne1,
   c.args.wiring.now.listed,
 )
