@@ -8,7 +8,7 @@ ghost use Rattle.net.specs.Limits.{most_vertices};
 ghost use Rattle.net.specs.Graph.{key_count};
 ghost use Rattle.net.specs.Tables.{Readable, storage_flags, output_flags, key_flags};
 
-use net::{Net, Vertex, by_vertex};
+use net::{Net, Symbol, Vertex, by_vertex};
 
 fn storage_flag(role: u8) -> u8
     ensures { result ≡ digit (eqb role 1 || eqb role 2) }
@@ -44,7 +44,7 @@ pub fn key_flags(net: Net, storage: &[u8; Net::VERTEX_PLACES]) -> [u8; Net::VERT
     let mut keys = [0u8; Net::VERTEX_PLACES];
     let count = net.edge_count as usize;
     for edge in &net.edges[..count] {
-        let v = symbols::vertex_of(symbols::decoded(edge.symbol));
+        let v = symbols::vertex_of(Symbol::from(edge.symbol));
         keys[v as usize] = storage[v as usize];
     }
     keys

@@ -7,6 +7,7 @@ mod vertex_tables;
 
 ghost use Rattle.std.specs.Prelude.{◌≡◌};
 ghost use Rattle.net.specs.Limits.{limits};
+ghost use Rattle.net.specs.Symbols.{decode};
 
 pub use graph::Graph;
 use ternary::Signal;
@@ -123,6 +124,24 @@ impl Symbol {
     pub const LAST_VERTEX: u16 = Symbol::VERTICES + Net::MOST_VERTICES as u16;
     // Every variable's number is below this one.
     pub const BOUND: usize = Symbol::LAST_VERTEX as usize + 1;
+}
+
+// The symbol that a number stands for.
+impl From<u16> for Symbol {
+    ghost from_gives = { λ number symbol. symbol ≡ decode number };
+
+    fn from(number: u16) -> Symbol {
+        match number {
+            0..=Symbol::LAST_CONSTANT => Symbol::Constant(number as u8),
+            Symbol::FIRST_LETTER..=Symbol::LAST_LETTER => Symbol::Letter(
+                (number - Symbol::LETTERS) as u8,
+            ),
+            Symbol::FIRST_VERTEX..=Symbol::LAST_VERTEX => Symbol::Vertex(
+                (number - Symbol::VERTICES) as u8,
+            ),
+            _ => Symbol::Unknown,
+        }
+    }
 }
 
 // The condition of an edge under a state.

@@ -37,7 +37,7 @@ fn belongs(storage: u8, label: u8, mine: u8) -> bool
 fn mark_symbol(flags: &mut [u8; Symbol::BOUND], symbol: u16)
     ensures { flags.new ≡ mark_symbol symbol flags.old }
 {
-    if symbols::is_variable(symbols::decoded(symbol)) {
+    if symbols::is_variable(Symbol::from(symbol)) {
         flags[symbol as usize] = 1;
     }
 }

@@ -1,28 +1,12 @@
-//! Symbols by their numbers, and the conditions of edges. Types, definitions and laws are those of the crate `net`.
+//! What symbols stand for, and the conditions of edges. Types, definitions and laws are those of the crate `net`.
 #![tactic(auto)]
 
 ghost use Rattle.std.specs.Prelude.{◌≡◌};
 ghost use Rattle.net.specs.State.{condition_of};
-ghost use Rattle.net.specs.Symbols.{decode, is_variable};
+ghost use Rattle.net.specs.Symbols.{is_variable};
 ghost use Rattle.net.specs.Tables.{vertex_of};
 
 use net::{Condition, Symbol};
-
-// The symbol that a number stands for.
-pub fn decoded(number: u16) -> Symbol
-    ensures { result ≡ decode number }
-{
-    match number {
-        0..=Symbol::LAST_CONSTANT => Symbol::Constant(number as u8),
-        Symbol::FIRST_LETTER..=Symbol::LAST_LETTER => Symbol::Letter(
-            (number - Symbol::LETTERS) as u8,
-        ),
-        Symbol::FIRST_VERTEX..=Symbol::LAST_VERTEX => Symbol::Vertex(
-            (number - Symbol::VERTICES) as u8,
-        ),
-        _ => Symbol::Unknown,
-    }
-}
 
 // The condition of an edge of a form whose symbol has a value: forms 0 and 3 close at 1, forms 1 and 2 at 0.
 pub fn condition_of(form: u8, value: u8) -> Condition
@@ -53,7 +37,7 @@ pub fn condition_of(form: u8, value: u8) -> Condition
     }
 }
 
-// The vertex that a symbol stands for, or 0, which is no vertex.
+// The vertex that a symbol stands for, or 0, which is no vertex: no Option, since a table has an entry for 0 too and is read there without a branch.
 pub fn vertex_of(symbol: Symbol) -> u8
     ensures { result ≡ vertex_of symbol }
 {

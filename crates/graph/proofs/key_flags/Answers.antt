@@ -16,7 +16,7 @@ use Rattle.graph.proofs.key_flags.Goals.{After-vertex_of-v}
 
 -- the vertex of this turn's symbol
 marks : (c : After-vertex_of-v) → c.vertex_of-v.result ≡ vertex_of (decode (edge_at c.args.net c.loop-edge.edge-index).symbol)
-marks c = c.vertex_of-v.ensures ∙ ap vertex_of (rw (edge_read c.args.net c.loop-edge-test.true) at c.decoded.ensures)
+marks c = c.vertex_of-v.ensures ∙ ap vertex_of (rw (edge_read c.args.net c.loop-edge-test.true) at c.from.ensures)
 
 in_table : (c : After-vertex_of-v) → c.vertex_of-v.result ≤ most_vertices
 in_table c = rw (marks c) (vertex_of_range _)

@@ -8,7 +8,7 @@ use Rattle.signals.proofs.mark_symbol.Goals.{After-is_variable}
 
 -- what the test tells
 is-variable : (c : After-is_variable) → is_variable (decode c.args.symbol) ≡ c.is_variable.result
-is-variable c = sym (c.is_variable.ensures ∙ ap is_variable c.decoded.ensures)
+is-variable c = sym (c.is_variable.ensures ∙ ap is_variable c.from.ensures)
 
 pub bounds-flags-symbol : goal.bounds-flags-symbol
 bounds-flags-symbol c = variable_range _ (is-variable (goal.at.bounds-flags-symbol c).After-is_variable ∙ c.if-is_variable.true)

@@ -1,7 +1,7 @@
--- `symbols::decoded` meets its contract: one law for each range of numbers.
+-- `Symbol::from` meets its contract: one law for each range of numbers.
 use native.Mathlib.Omega.{arith}
 use Rattle.net.proofs.Cases.{decode_constant, decode-low, decode_letter, decode_middle, decode-vertex, decode-high}
-use Rattle.symbols.proofs.decoded.Goals as goal
+use Rattle.net.proofs.SymbolFromU16.from.Goals as goal
 
 pub returns-in-0-to-1 : goal.returns-in-0-to-1
 returns-in-0-to-1 c = decode_constant _ (omega arith)
