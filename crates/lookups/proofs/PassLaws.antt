@@ -1,7 +1,6 @@
 -- The passes by look-ups are the passes of a net, in vectors with room for the most letters and key nodes.
 use Prim.Native.Nat.{ℕ}
 use mathlib.Core.Path.{◌≡◌, ap, ap₂, ◌∙◌}
-use mathlib.Core.Bool.{true}
 use mathlib.Core.List.{List}
 use lib.ListN.{length}
 use Rattle.ternary.specs.Bits.{bit}

@@ -1,5 +1,5 @@
 -- The tests that give a number, as the code makes them.
-use Prim.Native.Nat.{ℕ, zero, ◌+◌, ◌*◌, ◌/◌, ◌%◌, ◌^◌, ◌<◌}
+use Prim.Native.Nat.{ℕ, zero, ◌*◌, ◌/◌, ◌^◌, ◌<◌}
 use native.Mathlib.Nat.{mul-zero, div-lt_iff_lt-mul}
 use native.Mathlib.Omega.{arith}
 use mathlib.Core.Path.{◌≡◌, refl, sym}
@@ -8,15 +8,12 @@ use mathlib.Core.List.{List, ◌∷◌}
 use mathlib.Core.Option.{some}
 use Rattle.std.specs.Prelude.{Option, Some, None}
 use lib.Dec.{ltb}
-use lib.ListN.{length}
 use borrow.Author.Tests.{ltb-true, lt-ltb, le-ltb}
 use Rattle.ternary.proofs.Tests.{same_test, and_left, and_right}
 use Rattle.net.specs.declared.Net.{Net}
 use Rattle.net.specs.Graph.{key_count}
 use Rattle.net.specs.Network.{Clean, is_input_state, is_key_state}
-use Rattle.sheet.specs.Limits.{line_width}
 use Rattle.sheet.specs.Rows.{answer, Row, row, when, first_row}
-use Rattle.settlements.specs.Batch.{job_count}
 use Rattle.settlements.specs.Numbers.{state_number}
 
 -- ---- bytes by division

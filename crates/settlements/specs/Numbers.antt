@@ -1,12 +1,11 @@
 -- The tests that settling, a batch and a job share, and how a batch is measured, as the code tests them.
-use Rattle.std.specs.Prelude.{ℕ, ◌+◌, ◌-◌, ◌^◌, cond, ◌&&◌, ltb, Option, Some, None}
+use Rattle.std.specs.Prelude.{ℕ, ◌^◌, cond, ◌&&◌, ltb, Option, Some, None}
 use Rattle.std.proofs.Math.Option.{none, some}
 use Rattle.net.specs.declared.Net.{Net}
 use Rattle.net.specs.WellFormed.{place_c1}
 use Rattle.sheet.specs.declared.Answer.{Answer}
 use Rattle.sheet.specs.Rows.{answer}
 use Rattle.sheet.specs.Valid.{valid}
-use Rattle.sheet.specs.Limits.{line_width}
 
 -- with L letters and h key nodes: 42 where A or B is no input state, 43 where q is no key state, else no number
 unfoldable pub state_number : ℕ → ℕ → ℕ → ℕ → ℕ → Option ℕ

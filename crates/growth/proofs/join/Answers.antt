@@ -1,6 +1,5 @@
 -- `growth::join` meets its contract: the entries before i of the last third are stored.
 use borrow.Author.Rules.{rules}
-use Prim.Native.Nat.{◌-◌}
 use Rattle.lanes.proofs.GridLaws.{row_end}
 use Rattle.growth.proofs.join.Goals as goal
 

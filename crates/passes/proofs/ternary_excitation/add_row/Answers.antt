@@ -1,6 +1,5 @@
 -- `add_row` meets its contract: the sums before k are done. Assumes nothing.
 use native.Mathlib.Omega.{arith}
-use Prim.Native.Nat.{◌-◌}
 use Rattle.net.proofs.Filling.{fill_all}
 use Rattle.passes.proofs.ternary_excitation.add_row.Goals as goal
 

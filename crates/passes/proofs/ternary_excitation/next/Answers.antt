@@ -1,7 +1,7 @@
 -- `next` meets its contract: the first k key nodes are looked up. Assumes nothing.
 use native.Mathlib.Omega.{arith}
 use borrow.Author.Rules.{rules}
-use Prim.Native.Nat.{◌+◌, ◌<◌, ◌-◌}
+use Prim.Native.Nat.{◌+◌, ◌<◌}
 use Rattle.ternary.specs.Signal.{at}
 use Rattle.net.proofs.Filling.{fill_step, fill_end}
 use Rattle.lookups.specs.TernaryTables.{ternary_assignments}

@@ -2,10 +2,7 @@
 use native.Mathlib.Omega.{arith}
 use borrow.Author.Rules.{rules}
 use mathlib.Core.Path.{◌≡◌}
-use Prim.Native.Nat.{◌-◌}
 use lib.ListN.{length}
-use Rattle.ternary.proofs.ListLaws.{length-table}
-use Rattle.net.specs.Limits.{most_key_nodes}
 use Rattle.lookups.specs.LookUps.{sums}
 use Rattle.lookups.proofs.SumLaws.{sums-start, sums_addable, sums_turn}
 use Rattle.passes.proofs.ternary_excitation.sums.Goals as goal

@@ -1,9 +1,9 @@
 use mathlib.Core.Path.{◌≡◌}
-use Prim.Native.Nat.{◌≤◌, ◌-◌}
+use Prim.Native.Nat.{◌≤◌}
 use lib.ListN.{length}
 use Rattle.ternary.specs.Lists.{table}
 use Rattle.net.specs.Limits.{most_key_nodes}
-use Rattle.lookups.specs.LookUps.{added, sums}
+use Rattle.lookups.specs.LookUps.{added}
 use Rattle.passes.proofs.ternary_excitation.sums.Given as goal
 
 abbrev pub invariant-loop-i : goal.invariant-loop-i

@@ -1,5 +1,5 @@
 -- `write_jobs` meets its contract: the lines of the first i jobs are written. Assumes nothing.
-use Prim.Native.Nat.{◌-◌, ◌*◌}
+use Prim.Native.Nat.{◌*◌}
 use mathlib.Core.Path.{refl}
 use Rattle.settlements.specs.Batch.{answer_width}
 use Rattle.output.specs.Limits.{job_bytes}
