@@ -51,9 +51,6 @@ module _ {N : Net} {lines results₀ answers₀ results answers left piece after
   pub answers_now : place + answer_width ≤ length answers
   answers_now = room_now answer_width place (counted t) v.answers_room
 
-  pub bytes-length : length (take (place + answer_width - place) (drop place answers)) ≡ answer_width
-  bytes-length = rw (part_width place answer_width) (length-take-le answer_width (drop place answers) (simp length-drop (omega (arith, answers_now))))
-
   -- what the jobs after this one give
   abbrev rest : Buffers
   rest = run_jobs N (jobs_of after) (drop (job_width N) (drop at results)) (drop answer_width (drop place answers))
@@ -92,9 +89,6 @@ module _ {N : Net} {lines results₀ answers₀ results answers left piece after
   module _ {w : ℕ} (sized : w ≡ job_width N) where
     pub results_now : at + w ≤ length results
     results_now = rw sized fits
-
-    pub own-length : length (take (at + w - at) (drop at results)) ≡ job_width N
-    own-length = rw (part_width at w, sized) own_size
 
     pub step : (s : Settling) (own bytes : List ℕ)
         → settlement s (take (key_count N) own) (drop (key_count N) own) ≡ job_settlement N (job_of piece) (take (at + w - at) (drop at results))
