@@ -31,21 +31,11 @@ pub fn read_line(part: &[u8], columns: usize) -> Option<Line>
     if part[width - 1] != Sheet::LINE_END {
         return None;
     }
-    let Some(kind) = field_of(part, 0, columns) else {
-        return None;
-    };
-    let Some(second) = field_of(part, 1, columns) else {
-        return None;
-    };
-    let Some(third) = field_of(part, 2, columns) else {
-        return None;
-    };
-    let Some(fourth) = field_of(part, 3, columns) else {
-        return None;
-    };
-    let Some(fifth) = field_of(part, 4, columns) else {
-        return None;
-    };
+    let kind = field_of(part, 0, columns)?;
+    let second = field_of(part, 1, columns)?;
+    let third = field_of(part, 2, columns)?;
+    let fourth = field_of(part, 3, columns)?;
+    let fifth = field_of(part, 4, columns)?;
     Some(Line {
         kind,
         second,
@@ -79,9 +69,7 @@ pub fn job_in(bytes: &[u8], columns: usize) -> Option<Job>
     requires { ReadColumns columns }
     ensures { result ≡ job_in columns bytes.now }
 {
-    let Some(v) = read_line(bytes, columns) else {
-        return None;
-    };
+    let v = read_line(bytes, columns)?;
     if v.kind != Line::JOB {
         return None;
     }
