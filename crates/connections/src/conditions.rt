@@ -38,7 +38,7 @@ fn usable_at(kind: Kind, form: u8, symbol: u16, bit: u8) -> u8
 {
     admitted(
         kind,
-        symbols::condition_of(form, symbol_at(symbols::decoded(symbol), bit)),
+        symbols::condition_of(form, symbol_at(Symbol::from(symbol), bit)),
     )
 }
 

@@ -20,7 +20,7 @@ use net::{Kind, Net, Symbol};
 fn label_hits(label: u16, bit: u8, value: u8) -> u8
     ensures { result ≡ digit (eqb (symbol_at (decode label) bit) value) }
 {
-    flags::equal(conditions::symbol_at(symbols::decoded(label), bit), value)
+    flags::equal(conditions::symbol_at(Symbol::from(label), bit), value)
 }
 
 // Marks where an edge that is on joins a storage vertex to an input vertex of the value. The table comes as zeros.

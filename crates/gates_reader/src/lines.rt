@@ -55,7 +55,7 @@ fn symbol_ok(gates: usize, letters: u8, s: u32) -> bool
     if (Symbol::LAST_VERTEX as u32) < s {
         return false;
     }
-    match symbols::decoded(s as u16) {
+    match Symbol::from(s as u16) {
         Symbol::Constant(_) => true,
         Symbol::Letter(j) => j <= letters,
         Symbol::Vertex(v) => is_output(gates, v),

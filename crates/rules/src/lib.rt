@@ -96,7 +96,7 @@ pub fn vertex_ok(net: Net, x: Vertex) -> bool
 {
     let role = x.role;
     match role {
-        Vertex::INPUT => known_label(net, symbols::decoded(x.label)),
+        Vertex::INPUT => known_label(net, Symbol::from(x.label)),
         Vertex::STORAGE..=Vertex::OUTPUT => x.label == 0,
         _ => false,
     }
@@ -106,7 +106,7 @@ pub fn vertex_ok(net: Net, x: Vertex) -> bool
 fn symbol_ok(net: Net, e: Edge) -> bool
     ensures { result ≡ (leb e.form 3 && symbol_ok net e) }
 {
-    let s = symbols::decoded(e.symbol);
+    let s = Symbol::from(e.symbol);
     match form_of(e.form) {
         Form::Plain => known_symbol(net, s),
         Form::Primed => {

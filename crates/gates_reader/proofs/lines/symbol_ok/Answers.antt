@@ -1,4 +1,4 @@
--- A number above the symbols is none; the others are decoded.
+-- A number above the symbols is none; the others stand for a symbol.
 use Rattle.gates.proofs.LineSteps.{beyond_symbols}
 use Rattle.gates_reader.proofs.lines.symbol_ok.Goals as goal
 
