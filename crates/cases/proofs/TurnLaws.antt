@@ -29,7 +29,7 @@ module _ (b : List ℕ) (brings : ℕ) where
 
   -- one turn
   abbrev step : ℕ → ℕ → List (ℕ × ℕ) → List (ℕ × ℕ)
-  step at last rest = cond (eqb (kind_at b at) note) rest ((at , last) ∷ rest)
+  step at last rest = cond (eqb (kind_at b at) note) rest ((at, last) ∷ rest)
 
   turns_step : (most at from : ℕ) → at < length b
       → turns_from b brings (suc most) at from ≡ step at (brought b brings at from) (turns_from b brings most (next_of b at) (brought b brings at from))
@@ -73,5 +73,5 @@ module _ (b : List ℕ) (brings : ℕ) where
       pub all_note : kind_at b at ≡ note → All P (turns_from b brings (length b - at) at from)
       all_note e = rw (turn (length b - at) at from refl h, eq-eqb (kind_at b at) note e) now
 
-      pub all_answer : kind_at b at ≢ note → P (at , last) → All P (turns_from b brings (length b - at) at from)
-      all_answer e p = rw (turn (length b - at) at from refl h, ne_eqb (kind_at b at) note e) (All-cons P (at , brought b brings at from) _ (rw brought_is at p) now)
+      pub all_answer : kind_at b at ≢ note → P (at, last) → All P (turns_from b brings (length b - at) at from)
+      all_answer e p = rw (turn (length b - at) at from refl h, ne_eqb (kind_at b at) note e) (All-cons P (at, brought b brings at from) _ (rw brought_is at p) now)

@@ -20,7 +20,7 @@ turns_from b brings zero at from = []
 turns_from b brings (suc most) at from =
     let last = brought b brings at from in
     let rest = turns_from b brings most (next_of b at) last in
-    cond (ltb at (length b)) (cond (eqb (kind_at b at) note) rest ((at , last) ∷ rest)) []
+    cond (ltb at (length b)) (cond (eqb (kind_at b at) note) rest ((at, last) ∷ rest)) []
 
 -- those of the whole input
 unfoldable pub turns : List ℕ → ℕ → List (ℕ × ℕ)

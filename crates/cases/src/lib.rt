@@ -11,9 +11,9 @@ mod answers;
 mod runs;
 mod streams;
 
-use sheet::Sheet;
 pub use answers::{write_columns, write_counted, write_place, write_result};
 pub use runs::run_cases;
+use sheet::Sheet;
 pub use streams::{at_most, read_input};
 
 #[derive(Clone, Copy)]

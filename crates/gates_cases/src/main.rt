@@ -5,7 +5,10 @@
 
 ghost use Rattle.std.specs.Prelude.{◌<◌, ◌≡◌, length};
 
-use cases::{Case, Input, data_of, number_at, read_input, run_cases, size_at, write_columns, write_counted, write_place, write_result};
+use cases::{
+    Case, Input, data_of, number_at, read_input, run_cases, size_at, write_columns, write_counted,
+    write_place, write_result,
+};
 use sheet::{Reading, Sheet};
 
 // The buffer that the text is written to.
@@ -68,5 +71,10 @@ fn main(rt: HostRuntime) {
     let mut buffer: [u8; Input::MOST_BYTES] = files::buffer(0);
     let n = read_input(&rt, &mut buffer);
     let cases = &buffer[..n];
-    run_cases(&rt, cases, b'G', |at, from| print_answer(&rt, cases, at, data_of(cases, from)));
+    run_cases(
+        &rt,
+        cases,
+        b'G',
+        |at, from| print_answer(&rt, cases, at, data_of(cases, from)),
+    );
 }

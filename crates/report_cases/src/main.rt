@@ -111,7 +111,9 @@ fn repeat<'a, 'b>(lines: &'a [u8], jobs: &'b mut [u8]) {
         return;
     }
     for chunk in jobs.chunks_mut(lines.len()) {
-        chunk.copy_from_slice(&lines[..chunk.len()]);
+        for (job, byte) in chunk.iter_mut().zip(lines) {
+            *job = *byte;
+        }
     }
 }
 

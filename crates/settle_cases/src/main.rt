@@ -4,7 +4,9 @@
 
 ghost use Rattle.std.specs.Prelude.{◌<◌, ◌≡◌, length};
 
-use cases::{Case, Input, data_of, number_at, read_input, run_cases, size_at, write_columns, write_place};
+use cases::{
+    Case, Input, data_of, number_at, read_input, run_cases, size_at, write_columns, write_place,
+};
 use net::Net;
 use ternary::Signal;
 
@@ -76,7 +78,10 @@ fn print_settling(
 
 // A batch: number, place, and both buffers whole.
 fn print_batch(rt: &HostRuntime, net: Net, jobs: &[u8], results: &mut [u8], answers: &mut [u8]) {
-    let _ = write_place(&mut rt.stdout(), settling::batch(net, jobs, results, answers));
+    let _ = write_place(
+        &mut rt.stdout(),
+        settling::batch(net, jobs, results, answers),
+    );
     let _ = rt.write_all(b" ");
     print_signals(rt, results);
     let _ = rt.write_all(b" ");
@@ -111,7 +116,10 @@ fn run_batch(rt: &HostRuntime, cases: &[u8], at: usize, net: Net)
     if cases[at] == b'B' {
         print_batch(rt, net, jobs, results, answers);
     } else {
-        let _ = write_place(&mut rt.stdout(), settling::batch(net, jobs, results, answers));
+        let _ = write_place(
+            &mut rt.stdout(),
+            settling::batch(net, jobs, results, answers),
+        );
     }
 }
 
@@ -133,5 +141,10 @@ fn main(rt: HostRuntime) {
     let mut buffer: [u8; Input::MOST_BYTES] = files::buffer(0);
     let n = read_input(&rt, &mut buffer);
     let cases = &buffer[..n];
-    run_cases(&rt, cases, b'N', |at, from| print_answer(&rt, cases, at, data_of(cases, from)));
+    run_cases(
+        &rt,
+        cases,
+        b'N',
+        |at, from| print_answer(&rt, cases, at, data_of(cases, from)),
+    );
 }

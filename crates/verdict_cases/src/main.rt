@@ -4,7 +4,10 @@
 
 ghost use Rattle.std.specs.Prelude.{◌<◌, ◌≡◌, length};
 
-use cases::{Case, Input, data_of, number_at, read_input, run_cases, write_columns, write_place, write_result};
+use cases::{
+    Case, Input, data_of, number_at, read_input, run_cases, write_columns, write_place,
+    write_result,
+};
 use net::Net;
 use sheet::Answer;
 
@@ -33,7 +36,10 @@ fn print_state(rt: &HostRuntime, net: Net, input: u32, key: u32) {
 // The number of key nodes of a record: the number of its answer, and h.
 fn print_key_nodes(rt: &HostRuntime, net: Net) {
     let given = record_keys::key_nodes(net);
-    let _ = write_columns(&mut rt.stdout(), &[given.answer.number as u64, given.count as u64]);
+    let _ = write_columns(
+        &mut rt.stdout(),
+        &[given.answer.number as u64, given.count as u64],
+    );
 }
 
 // The answer of the case at a place, by its kind, for a sheet.
@@ -65,5 +71,10 @@ fn main(rt: HostRuntime) {
     let mut buffer: [u8; Input::MOST_BYTES] = files::buffer(0);
     let n = read_input(&rt, &mut buffer);
     let cases = &buffer[..n];
-    run_cases(&rt, cases, b'N', |at, from| print_answer(&rt, cases, at, data_of(cases, from)));
+    run_cases(
+        &rt,
+        cases,
+        b'N',
+        |at, from| print_answer(&rt, cases, at, data_of(cases, from)),
+    );
 }

@@ -6,7 +6,10 @@
 ghost use Rattle.std.specs.Prelude.{◌<◌, ◌≡◌, length};
 ghost use Rattle.std.specs.Counts.{IsPrefixLen};
 
-use cases::{Case, Input, at_most, data_of, number_at, read_input, run_cases, size_at, write_columns, write_counted, write_place};
+use cases::{
+    Case, Input, at_most, data_of, number_at, read_input, run_cases, size_at, write_columns,
+    write_counted, write_place,
+};
 use net::Net;
 use sheet::Sheet;
 use writer::Written;
@@ -158,5 +161,10 @@ fn main(rt: HostRuntime) {
     let mut buffer: [u8; Input::MOST_BYTES] = files::buffer(0);
     let n = read_input(&rt, &mut buffer);
     let cases = &buffer[..n];
-    run_cases(&rt, cases, b'N', |at, from| print_answer(&rt, cases, at, data_of(cases, from)));
+    run_cases(
+        &rt,
+        cases,
+        b'N',
+        |at, from| print_answer(&rt, cases, at, data_of(cases, from)),
+    );
 }

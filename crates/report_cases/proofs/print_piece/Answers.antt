@@ -5,4 +5,4 @@ use Rattle.output.proofs.ProgramLaws.{onward}
 use Rattle.report_cases.proofs.print_piece.Goals as goal
 
 pub returns : goal.returns
-returns c = subst (Onward _) (sym c.after_piece.ensures) (onward _ _ _)
+returns g c = subst (Onward _) (sym c.after_piece.ensures) (onward _ _ _)

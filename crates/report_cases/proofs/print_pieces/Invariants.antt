@@ -3,4 +3,4 @@ use Rattle.output.proofs.ProgramLaws.{jobs_left}
 use Rattle.report_cases.proofs.print_pieces.Given as goal
 
 abbrev pub decreases-loop-next : goal.decreases-loop-next
-decreases-loop-next l = jobs_left l.next
+decreases-loop-next g l = jobs_left l.next

@@ -16,7 +16,7 @@ loop-at-preserved g c rest =
     let P : ℕ × ℕ → Type 0 = λ x. goal.F-post g c.args.answer x.0 x.1 tt in
     c.loop-at.invariant
     (elim c.if-cases-at-eq-NOTE.branch [
-      then-cases-at-eq-NOTE w ↦ all_note _ _ P _ _ _ _ c.loop-at-test.true c.next_case-at.ensures c.brought-from.ensures rest w.if-cases-at-eq-NOTE.true
+      | then-cases-at-eq-NOTE w ↦ all_note _ _ P _ _ _ _ c.loop-at-test.true c.next_case-at.ensures c.brought-from.ensures rest w.if-cases-at-eq-NOTE.true
       | else-cases-at-eq-NOTE w ↦ all_answer _ _ P _ _ _ _ c.loop-at-test.true c.next_case-at.ensures c.brought-from.ensures rest w.if-cases-at-eq-NOTE.false w.answer.ensures
     ])
 
