@@ -93,7 +93,7 @@ fn gate_line_ok(gates: usize, letters: u8, g: usize, v: Line) -> bool
     symbol_ok(gates, letters, v.fifth)
 }
 
-// The gate of a line.
+// The gate of a line. No `TryFrom`: whoever calls has tested the line, and the error could not come.
 fn gate_of(v: Line) -> Gate
     requires { (v.fourth < symbol_bound) × (v.fifth < symbol_bound) }
     ensures { result ≡ line_gate v }

@@ -12,6 +12,7 @@ const LARGEST: u32 = u8::MAX as u32;
 
 const LARGEST_SYMBOL: u32 = u16::MAX as u32;
 
+// No `TryFrom` here and below: whoever calls has tested the sizes, and the error could not come.
 fn vertex_of(v: Line) -> Vertex
     requires { (v.third ≤ LARGEST) × (v.fourth ≤ LARGEST_SYMBOL) }
     ensures { result ≡ vertex_of v }

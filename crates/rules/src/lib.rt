@@ -6,21 +6,10 @@ ghost use Rattle.std.specs.Prelude.{◌≡◌, ◌&&◌, leb};
 ghost use Rattle.net.specs.Symbols.{within};
 ghost use Rattle.net.specs.Graph.{is_storage};
 ghost use Rattle.net.specs.Known.{known_symbol, known_label};
-ghost use Rattle.sheet.specs.Rules.{counts_ok, vertex_ok, symbol_ok, edge_ok, form_of};
+ghost use Rattle.sheet.specs.Rules.{counts_ok, vertex_ok, symbol_ok, edge_ok};
 
 use net::{Edge, Net, Symbol, Vertex};
 use sheet::Form;
-
-// What a form is.
-fn form_of(form: u8) -> Form
-    ensures { result ≡ form_of form }
-{
-    match form {
-        0..=1 => Form::Plain,
-        2..=3 => Form::Primed,
-        _ => Form::Unknown,
-    }
-}
 
 // Whether the counts of a header are within the limits; there is at least one vertex.
 pub fn counts_ok(vertices: usize, edges: usize, letters: usize) -> bool
@@ -107,7 +96,7 @@ fn symbol_ok(net: Net, e: Edge) -> bool
     ensures { result ≡ (leb e.form 3 && symbol_ok net e) }
 {
     let s = Symbol::from(e.symbol);
-    match form_of(e.form) {
+    match Form::from(e.form) {
         Form::Plain => known_symbol(net, s),
         Form::Primed => {
             if symbols::is_variable(s) {

@@ -5,6 +5,8 @@
 
 ghost use Rattle.std.specs.Prelude.{◌≡◌, ◌≤◌};
 ghost use Rattle.sheet.specs.Limits.{most_columns, line_bytes, widths};
+ghost use Rattle.sheet.specs.Rules.{form_of};
+ghost use Rattle.sheet.specs.Writing.{edge_line};
 
 use net::{Edge, Net, Vertex};
 
@@ -60,12 +62,40 @@ impl Line {
     pub const GATE: u32 = 7;
 }
 
+// The line of an edge.
+impl From<Edge> for Line {
+    ghost from_gives = { λ e line. line ≡ edge_line e };
+
+    fn from(e: Edge) -> Line {
+        Line {
+            kind: Line::EDGE,
+            second: e.end1 as u32,
+            third: e.end2 as u32,
+            fourth: e.form as u32,
+            fifth: e.symbol as u32,
+        }
+    }
+}
+
 // What the form of an edge is: plain, or primed, and then in need of a partner.
 #[derive(Clone, Copy)]
 pub enum Form {
     Plain,
     Primed,
     Unknown,
+}
+
+// What a form is.
+impl From<u8> for Form {
+    ghost from_gives = { λ form f. f ≡ form_of form };
+
+    fn from(form: u8) -> Form {
+        match form {
+            0..=1 => Form::Plain,
+            2..=3 => Form::Primed,
+            _ => Form::Unknown,
+        }
+    }
 }
 
 // An answer is 0 or a number of the papers, with a place.

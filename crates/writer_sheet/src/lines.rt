@@ -4,10 +4,10 @@
 ghost use Rattle.std.specs.Prelude.{◌≡◌, ◌++◌, ◌+◌, ◌*◌, ◌≤◌, ◌<◌, length, take};
 ghost use Rattle.net.specs.Limits.{most_vertices};
 ghost use Rattle.sheet.specs.Limits.{most_columns, line_bytes};
-ghost use Rattle.sheet.specs.Writing.{header_line, vertex_line, edge_line, vertex_lines, edge_lines, write_in};
+ghost use Rattle.sheet.specs.Writing.{header_line, vertex_line, vertex_lines, edge_lines, write_in};
 ghost use Rattle.writer.specs.Fronts.{Sized, body_line};
 
-use net::{Edge, Net, Vertex};
+use net::{Net, Vertex};
 use sheet::{Line, Sheet};
 
 fn header_line(net: Net) -> Line
@@ -22,7 +22,7 @@ fn header_line(net: Net) -> Line
     }
 }
 
-// The line of vertex j, counted from 0; on the sheet they count from 1.
+// The line of vertex j, counted from 0; on the sheet they count from 1. No `From`, since the vertex alone does not give its line.
 fn vertex_line(x: Vertex, j: usize) -> Line
     requires { j < most_vertices }
     ensures { result ≡ vertex_line j x }
@@ -36,18 +36,6 @@ fn vertex_line(x: Vertex, j: usize) -> Line
     }
 }
 
-fn edge_line(e: Edge) -> Line
-    ensures { result ≡ edge_line e }
-{
-    Line {
-        kind: Line::EDGE,
-        second: e.end1 as u32,
-        third: e.end2 as u32,
-        fourth: e.form as u32,
-        fifth: e.symbol as u32,
-    }
-}
-
 // Line j below the header, counted from 0: vertices come before edges, which stand in the record's order.
 fn body_line(net: Net, j: usize) -> Line
     requires { Sized net × (j < net.vertex_count + net.edge_count) }
@@ -57,7 +45,7 @@ fn body_line(net: Net, j: usize) -> Line
     if j < vertices {
         return vertex_line(net.vertices[j], j);
     }
-    edge_line(net.edges[j - vertices])
+    Line::from(net.edges[j - vertices])
 }
 
 fn write_body(out: &mut [u8], columns: usize, net: Net)

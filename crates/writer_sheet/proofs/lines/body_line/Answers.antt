@@ -9,4 +9,4 @@ returns-then-j-vertices c = rw (lt-ltb _ _ c.if-j-vertices.true) c.vertex_line.e
 
 pub returns : goal.returns
 unfolding body_line
-returns c = rw (le-ltb _ _ c.if-j-vertices.false) c.edge_line.ensures
+returns c = rw (le-ltb _ _ c.if-j-vertices.false) c.from.ensures

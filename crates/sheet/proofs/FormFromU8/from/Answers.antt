@@ -1,7 +1,7 @@
--- `form_of` meets its contract, form by form.
+-- `Form::from` meets its contract, form by form.
 use native.Mathlib.Omega.{arith}
 use Rattle.sheet.proofs.RuleSteps.{form_plain, form_primed, form_unknown}
-use Rattle.rules.proofs.form_of.Goals as goal
+use Rattle.sheet.proofs.FormFromU8.from.Goals as goal
 
 pub returns-in-0-to-1 : goal.returns-in-0-to-1
 returns-in-0-to-1 c = form_plain c.args.form c.in-0-to-1.if-form-lt2-own.true
