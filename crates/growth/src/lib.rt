@@ -17,6 +17,7 @@ fn join(out: &mut [u8], third: usize)
     requires { (0 < third) × (length out.old ≡ signal_kinds * third) }
     ensures { out.new ≡ set_row third 2 (λ i. agree (cell third out.old 0 i) (cell third out.old 1 i)) out.old }
 {
+    // By places: one slice in three parts, and no fact tells what a `zip` of `iter_mut` wrote.
     for i in 0..third {
         out[2 * third + i] = ternary::agree(out[i], out[third + i]);
     }
