@@ -21,7 +21,7 @@ fn digit(column: u8) -> u64
     (column - Sheet::DIGIT_ZERO) as u64
 }
 
-// The number in the columns, whatever bytes they hold.
+// The number in the columns, whatever bytes they hold. No `fold`: its closure would have no bound on the sum so far.
 fn value(b: &[u8]) -> u64
     requires { length b.now ≤ most_columns }
     ensures { result ≡ field_value b.now }

@@ -34,6 +34,7 @@ fn vertex_fits(net: Net, i: usize) -> bool
     is_no_vertex(x)
 }
 
+// `edges_fit` below is the same of edges: one function for both would take the test of a place and the number of places, and be no plainer.
 fn vertices_fit(net: Net) -> bool
     ensures { result ≡ all_below most_vertices (vertex_fits net) }
 {
