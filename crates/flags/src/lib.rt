@@ -1,4 +1,4 @@
-//! Flags: bytes that are 1 or 0.
+//! Flags: bytes that are 1 or 0, and not `bool`, so that loops over tables of them have no branch.
 #![tactic(auto)]
 
 ghost use Rattle.std.specs.Prelude.{◌≡◌, ◌&&◌, eqb, length, get_or};

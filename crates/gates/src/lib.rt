@@ -16,7 +16,7 @@ pub enum Gate {
 }
 
 impl Gate {
-    // The types of a gate on a sheet.
+    // The types of a gate on a sheet: numbers, since a line may hold any; decoded they are the cases above.
     pub const INVERTER: u32 = 1;
 
     pub const NAND: u32 = 2;

@@ -6,7 +6,7 @@ ghost use Rattle.output.specs.declared.Written.TheVariants.{Bytes};
 ghost use Rattle.output.specs.Limits.{most_jobs, piece_jobs, piece_bytes};
 ghost use Rattle.output.specs.Output.{net_text};
 ghost use Rattle.output.specs.Calls.{report, put, read_lines};
-ghost use Rattle.report_pieces.specs.Pieces.{result_bytes, answer_bytes, Ready};
+ghost use Rattle.report_pieces.specs.Pieces.{Ready};
 
 use net::Net;
 use output::Report;
@@ -35,16 +35,10 @@ pub(crate) fn read_lines(first: u32, lines: &[u8]) -> &[u8]
 }
 
 // Zeros for the jobs of a piece, of which a call lends as many as its jobs need.
-fn result_buffer() -> [u8; RESULT_BYTES]
-    ensures { result ≡ replicate result_bytes 0 }
+fn zeros<const N: usize>() -> [u8; N]
+    ensures { result ≡ replicate N 0 }
 {
-    [0; RESULT_BYTES]
-}
-
-fn answer_buffer() -> [u8; ANSWER_BYTES]
-    ensures { result ≡ replicate answer_bytes 0 }
-{
-    [0; ANSWER_BYTES]
+    [0; N]
 }
 
 // Runs the jobs, and writes their lines unless the batch is refused. Answers how many bytes it wrote.
@@ -78,8 +72,8 @@ pub(crate) fn write<'a, 'b>(net: Net, first: u32, lines: &'a [u8], out: &'b mut 
     let h = graph::key_count(net);
     let results_end = count * (Settling::VECTORS * h);
     let answers_end = count * Settling::ANSWER_BYTES;
-    let mut results = result_buffer();
-    let mut answers = answer_buffer();
+    let mut results: [u8; RESULT_BYTES] = zeros();
+    let mut answers: [u8; ANSWER_BYTES] = zeros();
     run(
         net,
         h,

@@ -48,7 +48,7 @@ pub struct Line {
 }
 
 impl Line {
-    // The kinds of a line.
+    // The kinds of a line. Numbers and no enum, since a line that is read may begin with any.
     pub const HEADER: u32 = 1;
 
     pub const VERTEX: u32 = 2;
@@ -98,7 +98,8 @@ impl From<u8> for Form {
     }
 }
 
-// An answer is 0 or a number of the papers, with a place.
+// An answer is 0 or a number of the papers, with a place. No enum and no Option: document 01 has numbers, and a record or counts beside them under a refusal
+// too; `sheet_readings::refusal` and `job_tests::refused` hand on any number, and a batch's bytes, the text and the calls for C are these numbers.
 #[derive(Clone, Copy)]
 pub struct Answer {
     pub number: u8,

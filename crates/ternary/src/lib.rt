@@ -6,7 +6,7 @@ ghost use Rattle.std.specs.Prelude.{◌≡◌};
 ghost use Rattle.ternary.specs.Signal.{X};
 ghost use Rattle.ternary.specs.TruthTable.{agree};
 
-// A signal of a vector in a buffer: the byte 0, 1 or X.
+// A signal of a vector in a buffer: the byte 0, 1 or X. Document 01 has bytes in lent buffers, so it is no enum.
 #[derive(Clone, Copy)]
 pub struct Signal;
 

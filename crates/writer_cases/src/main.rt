@@ -70,7 +70,7 @@ fn read_back(net: Net, buffer: &mut [u8]) -> Net {
     reading.net
 }
 
-// The record with another label at a vertex place, counted from 0.
+// The record with another label at a vertex place, counted from 0. `with_symbol` is the same of an edge: one for both would take a closure, and be no plainer.
 fn with_label(net: Net, place: usize, value: u32) -> Net {
     if Net::MOST_VERTICES <= place {
         return net;

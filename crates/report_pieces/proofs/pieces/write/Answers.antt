@@ -12,7 +12,7 @@ use Rattle.output.proofs.ReadLines.{jobs_few}
 use Rattle.report_pieces.specs.Pieces.{result_bytes, answer_bytes}
 use Rattle.report_pieces.proofs.JobSteps.{piece_room, zeros-lent}
 use Rattle.report_pieces.proofs.pieces.write.Goals as goal
-use Rattle.report_pieces.proofs.pieces.write.Goals.{After-answer_buffer-answers, After-job_count-count, After-key_count-h, After-result_buffer-results}
+use Rattle.report_pieces.proofs.pieces.write.Goals.{After-job_count-count, After-key_count-h, After-zeros-answers, After-zeros-results}
 
 few : (c : After-job_count-count) → c.job_count-count.result ≤ piece_jobs
 few c = rw c.job_count-count.ensures (jobs_few piece_jobs _ c.requires.1)
@@ -27,11 +27,11 @@ results-few c = piece_room (2 * most_key_nodes) (few (goal.at.After-key_count-h 
 answers-few : (c : After-job_count-count) → c.job_count-count.result * answer_width ≤ answer_bytes
 answers-few c = omega (arith, few c)
 
-results-size : (c : After-result_buffer-results) → length c.result_buffer-results.result ≡ result_bytes
-results-size c = ap length c.result_buffer-results.ensures ∙ length-replicate {A = ℕ} result_bytes 0
+results-size : (c : After-zeros-results) → length c.zeros-results.result ≡ result_bytes
+results-size c = ap length c.zeros-results.ensures ∙ length-replicate {A = ℕ} result_bytes 0
 
-answers-size : (c : After-answer_buffer-answers) → length c.answer_buffer-answers.result ≡ answer_bytes
-answers-size c = ap length c.answer_buffer-answers.ensures ∙ length-replicate {A = ℕ} answer_bytes 0
+answers-size : (c : After-zeros-answers) → length c.zeros-answers.result ≡ answer_bytes
+answers-size c = ap length c.zeros-answers.ensures ∙ length-replicate {A = ℕ} answer_bytes 0
 
 pub key_count-h-requires : goal.key_count-h-requires
 key_count-h-requires c = (valid_fit _ c.requires.0).readable
@@ -46,10 +46,10 @@ pub overflow_mul-answers_end : goal.overflow_mul-answers_end
 overflow_mul-answers_end c = omega (arith, answers-few (goal.at.overflow_mul-answers_end c).After-job_count-count)
 
 pub slice_bounds-results-end : goal.slice_bounds-results-end
-slice_bounds-results-end c = omega (arith, results-size (goal.at.slice_bounds-results-end c).After-result_buffer-results, results-few (goal.at.slice_bounds-results-end c).After-key_count-h)
+slice_bounds-results-end c = omega (arith, results-size (goal.at.slice_bounds-results-end c).After-zeros-results, results-few (goal.at.slice_bounds-results-end c).After-key_count-h)
 
 pub slice_bounds-answers-end : goal.slice_bounds-answers-end
-slice_bounds-answers-end c = omega (arith, answers-size (goal.at.slice_bounds-answers-end c).After-answer_buffer-answers, answers-few (goal.at.slice_bounds-answers-end c).After-job_count-count)
+slice_bounds-answers-end c = omega (arith, answers-size (goal.at.slice_bounds-answers-end c).After-zeros-answers, answers-few (goal.at.slice_bounds-answers-end c).After-job_count-count)
 
 pub run-requires : goal.run-requires
 run-requires c =
@@ -59,7 +59,7 @@ run-requires c =
       counted = c.job_count-count.ensures;
       few = few (goal.at.run-requires c).After-job_count-count;
       numbered = omega (arith, few (goal.at.run-requires c).After-job_count-count);
-      result_room = zeros-lent (results-few (goal.at.run-requires c).After-key_count-h) c.result_buffer-results.ensures;
-      answer_room = zeros-lent (answers-few (goal.at.run-requires c).After-job_count-count) c.answer_buffer-answers.ensures;
+      result_room = zeros-lent (results-few (goal.at.run-requires c).After-key_count-h) c.zeros-results.ensures;
+      answer_room = zeros-lent (answers-few (goal.at.run-requires c).After-job_count-count) c.zeros-answers.ensures;
       text_room = c.requires.2;
     }
