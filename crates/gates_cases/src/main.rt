@@ -3,7 +3,7 @@
 //! comes from.
 #![tactic(auto)]
 
-ghost use Rattle.std.specs.Prelude.{◌<◌, ◌≡◌, length};
+ghost use Rattle.std.specs.Prelude.{◌<◌, length};
 
 use cases::{
     Case, Input, data_of, number_at, read_input, run_cases, size_at, write_columns, write_counted,

@@ -2,7 +2,7 @@
 //! tests/report_cases.py tells the numbers of a case and where each expected answer comes from.
 #![tactic(auto)]
 
-ghost use Rattle.std.specs.Prelude.{◌≤◌, ◌<◌, ◌≡◌, length};
+ghost use Rattle.std.specs.Prelude.{◌<◌, length};
 ghost use Rattle.std.specs.Counts.{IsPrefixLen};
 ghost use Rattle.output.specs.Program.{Onward};
 

@@ -2,7 +2,7 @@
 //! tests/verdict_cases.py tells the layout of a case and where each expected answer comes from.
 #![tactic(auto)]
 
-ghost use Rattle.std.specs.Prelude.{◌<◌, ◌≡◌, length};
+ghost use Rattle.std.specs.Prelude.{◌<◌, length};
 
 use cases::{
     Case, Input, data_of, number_at, read_input, run_cases, write_columns, write_place,

@@ -3,8 +3,7 @@
 //! each expected answer comes from.
 #![tactic(auto)]
 
-ghost use Rattle.std.specs.Prelude.{◌<◌, ◌≡◌, length};
-ghost use Rattle.std.specs.Counts.{IsPrefixLen};
+ghost use Rattle.std.specs.Prelude.{◌<◌, length};
 
 use cases::{
     Case, Input, at_most, data_of, number_at, read_input, run_cases, size_at, write_columns,
