@@ -62,7 +62,8 @@ fn part(input: &[u8], at: usize, n: usize) -> &[u8]
     &input[at..end]
 }
 
-// The number whose field stands at a place of the input; the largest of 32 bits, which no field holds, where none does.
+// The number whose field stands at a place of the input; the largest of 32 bits, which no field holds, where none does: no Option, since the programs hand it
+// on as it is.
 pub fn number_at(input: &[u8], at: usize) -> u32
     ensures { result ≡ number_at input.now at }
 {

@@ -12,7 +12,8 @@ fn read_some(rt: &HostRuntime, buffer: &mut [u8]) -> usize
     input.read(buffer).unwrap_or(0)
 }
 
-// A loop of its own: `read_exact` does not tell how many bytes a short input has. Reads standard input until the buffer is full, the input ends or a read fails, and answers how many bytes there are.
+// Reads standard input until the buffer is full, the input ends or a read fails, and answers how many bytes there are. Not `read_exact`, which does not tell
+// how many bytes a short input has, nor `files::read`, which tells a failure.
 pub fn read_input(rt: &HostRuntime, buffer: &mut [u8]) -> usize
     ensures { IsPrefixLen result buffer.new }
 {
