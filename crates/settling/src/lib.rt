@@ -10,6 +10,7 @@ ghost use Rattle.settlements.specs.Numbers.{net_refusal};
 use net::Net;
 use settlements::Settling;
 use sheet::{Answer, Job};
+use troubles::SoundNet;
 
 // What a record is refused with, if it is: it is none of an accepted sheet, or breaks C1. Else its excitations are left to the caller.
 fn refusal(net: Net, excitations: &mut [u8; Net::VERTEX_LANES]) -> Option<Answer>
@@ -46,7 +47,11 @@ pub fn settle<'a>(
     if let Some(answer) = refusal(net, &mut excitations) {
         return job_tests::refused(answer.number, answer.place);
     }
-    sound_settling::settle(net, &excitations, Job { old, new, start }, r, t)
+    let sound = SoundNet {
+        net: &net,
+        excitations: &excitations,
+    };
+    sound_settling::settle(&sound, Job { old, new, start }, r, t)
 }
 
 // A batch: every job on its own bytes of the results, with its own bytes of the answers.
@@ -62,5 +67,9 @@ pub fn batch<'a, 'b>(
     if let Some(answer) = refusal(net, &mut excitations) {
         return answer;
     }
-    sound_settling::batch(net, &excitations, jobs, results, answers)
+    let sound = SoundNet {
+        net: &net,
+        excitations: &excitations,
+    };
+    sound_settling::batch(&sound, jobs, results, answers)
 }

@@ -3,30 +3,25 @@
 
 mod prepared;
 
-ghost use Rattle.std.specs.Prelude.{◌≡◌, true};
-ghost use Rattle.std.proofs.Math.Option.{none};
-ghost use Rattle.net.specs.WellFormed.{place_c1};
-ghost use Rattle.excitations.specs.Excitations.{excitation_lanes};
-ghost use Rattle.sheet.specs.Valid.{valid};
+ghost use Rattle.std.specs.Prelude.{◌≡◌};
 ghost use Rattle.settlements.specs.Settle.{settlement, settle_of};
 ghost use Rattle.settlements.specs.Batch.{batched, batch_of};
 
 use lookups::LookUps;
-use net::Net;
 use settlements::Settling;
 use sheet::{Answer, Job};
+use troubles::SoundNet;
 
 // Settling: the states, the buffers, then the start.
 pub fn settle<'a, 'b>(
-    net: Net,
-    excitations: &'a [u8; Net::VERTEX_LANES],
+    sound: &'a SoundNet<'a>,
     job: Job,
     r: &'b mut [u8],
     t: &'b mut [u8],
 ) -> Settling
-    requires { (valid net ≡ true) × (place_c1 net ≡ none) × (excitations.now ≡ excitation_lanes net) }
-    ensures { settlement result r.new t.new ≡ settle_of net job.old job.new job.start r.old t.old }
+    ensures { settlement result r.new t.new ≡ settle_of sound.now.net.now job.old job.new job.start r.old t.old }
 {
+    let net = *sound.net;
     let h = graph::key_count(net);
     let letters = net.letter_count as usize;
     if let Some(number) = job_tests::state_number(letters, h, job) {
@@ -38,7 +33,7 @@ pub fn settle<'a, 'b>(
     if t.len() < h {
         return job_tests::refused(Answer::SHORT_BUFFER, 0);
     }
-    let tables = prepared::ternary_tables(net, excitations);
+    let tables = prepared::ternary_tables(net, sound.excitations);
     let additions = prepared::additions(net);
     let look_ups = LookUps {
         tables: &tables,
@@ -50,15 +45,14 @@ pub fn settle<'a, 'b>(
 
 // A batch: room for all jobs, then the jobs.
 pub fn batch<'a, 'b>(
-    net: Net,
-    excitations: &'a [u8; Net::VERTEX_LANES],
+    sound: &'a SoundNet<'a>,
     lines: &'a [u8],
     results: &'b mut [u8],
     answers: &'b mut [u8],
 ) -> Answer
-    requires { (valid net ≡ true) × (place_c1 net ≡ none) × (excitations.now ≡ excitation_lanes net) }
-    ensures { batched result results.new answers.new ≡ batch_of net lines.now results.old answers.old }
+    ensures { batched result results.new answers.new ≡ batch_of sound.now.net.now lines.now results.old answers.old }
 {
+    let net = *sound.net;
     let h = graph::key_count(net);
     let count = job_tests::job_count(lines);
     if job_tests::is_short(results.len(), count, Settling::VECTORS * h) {
@@ -73,7 +67,7 @@ pub fn batch<'a, 'b>(
             place: 0,
         };
     }
-    let tables = prepared::ternary_tables(net, excitations);
+    let tables = prepared::ternary_tables(net, sound.excitations);
     let additions = prepared::additions(net);
     let look_ups = LookUps {
         tables: &tables,

@@ -6,5 +6,5 @@ use Rattle.settling.proofs.batch.Goals as goal
 pub returns-in-Some : goal.returns-in-Some
 returns-in-Some c = unrun_by _ _ _ _ (sym c.refusal.ensures.told ∙ c.in-Some.is)
 
-pub batch-requires : goal.batch-requires
-batch-requires c = let p = passed _ (sym c.refusal.ensures.told ∙ c.in_default.is) in (p.0, p.1, c.refusal.ensures.excited c.in_default.is)
+pub invariant_of-sound : goal.invariant_of-sound
+invariant_of-sound c = let p = passed _ (sym c.refusal.ensures.told ∙ c.in_default.is) in record { accepted = p.0; sound = p.1; excited = c.refusal.ensures.excited c.in_default.is }

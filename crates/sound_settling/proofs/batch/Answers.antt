@@ -16,12 +16,12 @@ use Rattle.settlements.proofs.BatchSteps.{short_results, short_answers, all_run}
 use Rattle.sound_settling.proofs.batch.Goals as goal
 use Rattle.sound_settling.proofs.batch.Goals.{After-additions-additions, After-is_short, After-is_short-2, Start}
 
-fit : (c : Start) → Fit c.args.net
-fit c = valid_fit _ c.requires.0
+fit : (c : Start) → Fit c.args.sound.now.net.now
+fit c = valid_fit _ c.args.sound.now.accepted
 
 -- what the two tests of room tell
 results-told : (c : After-is_short) →
-    c.is_short.result ≡ ltb (length c.args.results.now) (job_count c.args.lines.now * job_width c.args.net)
+    c.is_short.result ≡ ltb (length c.args.results.now) (job_count c.args.lines.now * job_width c.args.sound.now.net.now)
 results-told c = rw (← c.key_count-h.ensures, ← c.job_count-count.ensures) c.is_short.ensures
 
 answers-told : (c : After-is_short-2) →
@@ -36,24 +36,24 @@ overflow_mul-h c = omega (arith, c.key_count-h.ensures, (fit (goal.at.overflow_m
 
 pub returns-then-is_short : goal.returns-then-is_short
 returns-then-is_short c =
-    short_results _ _ _ _ c.requires.0 c.requires.1 (sym (results-told (goal.at.returns-then-is_short c).After-is_short) ∙ c.if-is_short.true)
+    short_results _ _ _ _ c.args.sound.now.accepted c.args.sound.now.sound (sym (results-told (goal.at.returns-then-is_short c).After-is_short) ∙ c.if-is_short.true)
 
 pub returns-then-is_short-2 : goal.returns-then-is_short-2
 returns-then-is_short-2 c =
-    short_answers _ _ _ _ c.requires.0 c.requires.1 (sym (results-told (goal.at.returns-then-is_short-2 c).After-is_short) ∙ c.if-is_short.false) (sym (answers-told (goal.at.returns-then-is_short-2 c).After-is_short-2) ∙ c.if-is_short-2.true)
+    short_answers _ _ _ _ c.args.sound.now.accepted c.args.sound.now.sound (sym (results-told (goal.at.returns-then-is_short-2 c).After-is_short) ∙ c.if-is_short.false) (sym (answers-told (goal.at.returns-then-is_short-2 c).After-is_short-2) ∙ c.if-is_short-2.true)
 
 pub ternary_tables-tables-requires : goal.ternary_tables-tables-requires
-ternary_tables-tables-requires c = (fit (goal.at.ternary_tables-tables-requires c).Start, c.requires.2)
+ternary_tables-tables-requires c = (fit (goal.at.ternary_tables-tables-requires c).Start, c.args.sound.now.excited)
 
 pub additions-additions-requires : goal.additions-additions-requires
 additions-additions-requires c = fit (goal.at.additions-additions-requires c).Start
 
 -- what is prepared
-ready : (c : After-additions-additions) → Ready c.args.net c.key_count-h.result c.ternary_tables-tables.result c.additions-additions.result
+ready : (c : After-additions-additions) → Ready c.args.sound.now.net.now c.key_count-h.result c.ternary_tables-tables.result c.additions-additions.result
 ready c =
     record {
       fit = fit (goal.at.After-additions-additions c).Start;
-      c1 = (place_c1_none _).0 c.requires.1;
+      c1 = (place_c1_none _).0 c.args.sound.now.sound;
       keys = c.key_count-h.ensures;
       tabled = c.ternary_tables-tables.ensures;
       added = c.additions-additions.ensures;
@@ -71,4 +71,4 @@ run-requires c = (
 
 pub returns : goal.returns
 returns c =
-    all_run _ _ _ _ c.requires.0 c.requires.1 (sym (results-told (goal.at.returns c).After-is_short) ∙ c.if-is_short.false) (sym (answers-told (goal.at.returns c).After-is_short-2) ∙ c.if-is_short-2.false) c.run.ensures
+    all_run _ _ _ _ c.args.sound.now.accepted c.args.sound.now.sound (sym (results-told (goal.at.returns c).After-is_short) ∙ c.if-is_short.false) (sym (answers-told (goal.at.returns c).After-is_short-2) ∙ c.if-is_short-2.false) c.run.ensures

@@ -15,25 +15,25 @@ use Rattle.settlements.proofs.SettleSteps.{bad_state, short_r, short_t, not_stab
 use Rattle.sound_settling.proofs.settle.Goals as goal
 use Rattle.sound_settling.proofs.settle.Goals.{After-additions-additions, In_default, Else-r-h, Else-t-h, Start}
 
-fit : (c : Start) → Fit c.args.net
-fit c = valid_fit _ c.requires.0
+fit : (c : Start) → Fit c.args.sound.now.net.now
+fit c = valid_fit _ c.args.sound.now.accepted
 
 -- what has passed so far
-states : (c : In_default) → number_of c.args.net c.args.job.old c.args.job.new c.args.job.start ≡ None
+states : (c : In_default) → number_of c.args.sound.now.net.now c.args.job.old c.args.job.new c.args.job.start ≡ None
 states c = rw c.key_count-h.ensures at (sym c.state_number.ensures ∙ c.in_default.is)
 
-room-r : (c : Else-r-h) → key_count c.args.net ≤ length c.args.r.now
+room-r : (c : Else-r-h) → key_count c.args.sound.now.net.now ≤ length c.args.r.now
 room-r c = rw c.key_count-h.ensures at c.if-r-h.false
 
-room-t : (c : Else-t-h) → key_count c.args.net ≤ length c.args.t.now
+room-t : (c : Else-t-h) → key_count c.args.sound.now.net.now ≤ length c.args.t.now
 room-t c = rw c.key_count-h.ensures at c.if-t-h.false
 
 -- what is prepared
-ready : (c : After-additions-additions) → Ready c.args.net c.key_count-h.result c.ternary_tables-tables.result c.additions-additions.result
+ready : (c : After-additions-additions) → Ready c.args.sound.now.net.now c.key_count-h.result c.ternary_tables-tables.result c.additions-additions.result
 ready c =
     record {
       fit = fit (goal.at.After-additions-additions c).Start;
-      c1 = (place_c1_none _).0 c.requires.1;
+      c1 = (place_c1_none _).0 c.args.sound.now.sound;
       keys = c.key_count-h.ensures;
       tabled = c.ternary_tables-tables.ensures;
       added = c.additions-additions.ensures;
@@ -50,20 +50,20 @@ state_number-requires c =
 pub returns-in-Some : goal.returns-in-Some
 returns-in-Some c =
     rw c.refused.ensures
-    (bad_state _ _ _ _ _ _ c.requires.0 c.requires.1 (rw c.key_count-h.ensures at (sym c.state_number.ensures ∙ c.in-Some.is)))
+    (bad_state _ _ _ _ _ _ c.args.sound.now.accepted c.args.sound.now.sound (rw c.key_count-h.ensures at (sym c.state_number.ensures ∙ c.in-Some.is)))
 
 pub returns-then-r-h : goal.returns-then-r-h
 returns-then-r-h c =
     rw c.refused-then-r-h.ensures
-    (short_r _ _ _ _ _ _ c.requires.0 c.requires.1 (states (goal.at.returns-then-r-h c).In_default) (rw c.key_count-h.ensures at c.if-r-h.true))
+    (short_r _ _ _ _ _ _ c.args.sound.now.accepted c.args.sound.now.sound (states (goal.at.returns-then-r-h c).In_default) (rw c.key_count-h.ensures at c.if-r-h.true))
 
 pub returns-then-t-h : goal.returns-then-t-h
 returns-then-t-h c =
     rw c.refused-then-t-h.ensures
-    (short_t _ _ _ _ _ _ c.requires.0 c.requires.1 (states (goal.at.returns-then-t-h c).In_default) (room-r (goal.at.returns-then-t-h c).Else-r-h) (rw c.key_count-h.ensures at c.if-t-h.true))
+    (short_t _ _ _ _ _ _ c.args.sound.now.accepted c.args.sound.now.sound (states (goal.at.returns-then-t-h c).In_default) (room-r (goal.at.returns-then-t-h c).Else-r-h) (rw c.key_count-h.ensures at c.if-t-h.true))
 
 pub ternary_tables-tables-requires : goal.ternary_tables-tables-requires
-ternary_tables-tables-requires c = (fit (goal.at.ternary_tables-tables-requires c).Start, c.requires.2)
+ternary_tables-tables-requires c = (fit (goal.at.ternary_tables-tables-requires c).Start, c.args.sound.now.excited)
 
 pub additions-additions-requires : goal.additions-additions-requires
 additions-additions-requires c = fit (goal.at.additions-additions-requires c).Start
@@ -78,5 +78,5 @@ returns c =
     let w = room-t (goal.at.returns c).Else-t-h in
     c.settle.ensures
     ∙ passed (ready (goal.at.returns c).After-additions-additions) _ _ _ s _ _
-    (at_rest _ _ _ _ _ _ c.requires.0 c.requires.1 s v w)
-    (not_stable _ _ _ _ _ _ c.requires.0 c.requires.1 s v w)
+    (at_rest _ _ _ _ _ _ c.args.sound.now.accepted c.args.sound.now.sound s v w)
+    (not_stable _ _ _ _ _ _ c.args.sound.now.accepted c.args.sound.now.sound s v w)
