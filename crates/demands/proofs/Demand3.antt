@@ -15,7 +15,6 @@ use Rattle.net.specs.Graph.{key_count}
 use Rattle.net.specs.Network.{network}
 use Rattle.net.specs.Ternary.{settled}
 use Rattle.sheet.specs.Limits.{field_width}
-use Rattle.sheet.specs.Rows.{answer}
 use Rattle.sheet.specs.Valid.{valid}
 use Rattle.sheet.specs.Job.{asks, job_of}
 use Rattle.sheet.proofs.ReadLaws.{read_valid}

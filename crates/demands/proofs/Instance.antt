@@ -11,7 +11,6 @@ use Rattle.ternary.specs.Signal.{X, at}
 use Rattle.ternary.specs.Run.{Step}
 use Rattle.net.specs.Graph.{key_count}
 use Rattle.sheet.specs.Record.{accepted}
-use Rattle.sheet.specs.Rows.{answer}
 use Rattle.sheet.specs.Line.{write_number}
 use Rattle.sheet.specs.Reading.{read_sheet}
 use Rattle.soundness.specs.Verdict.{verdict_rows, verdict_of}

@@ -16,7 +16,7 @@ use Rattle.net.specs.Graph.{key_count}
 use Rattle.sheet.specs.Limits.{field_width}
 use Rattle.sheet.specs.declared.Answer.{Answer}
 use Rattle.sheet.specs.declared.Reading.{Reading}
-use Rattle.sheet.specs.Rows.{answer, Row, answered, First}
+use Rattle.sheet.specs.Rows.{Row, answered, First}
 use Rattle.sheet.specs.Rows.First.{here, later}
 use Rattle.sheet.specs.Record.{accepted}
 use Rattle.sheet.specs.Reading.{read_sheet}

@@ -23,7 +23,6 @@ use Rattle.sheet.proofs.RowLaws.{when_none, by_rows_fit, by_rows-first}
 use Rattle.sheet.proofs.SheetRowLaws.{sheet_accepted, sheet_then}
 use Rattle.sheet.proofs.ReadLaws.{read_valid}
 use Rattle.sheet.proofs.WriteLaws.{read_write_sheet}
-use Rattle.settlements.specs.Settle.{written}
 use Rattle.output.specs.Limits.{most_jobs}
 use Rattle.output.specs.Output.{first_line, judged_of, opening_text, jobs_text, output_of}
 use Rattle.writer.specs.SameNet.{SameNet}

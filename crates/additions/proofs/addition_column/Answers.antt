@@ -1,6 +1,5 @@
 -- `additions::addition_column` meets its contract: the entries of column k before row r are stored. Assumes nothing.
 use native.Mathlib.Omega.{arith}
-use Prim.Native.Nat.{◌-◌}
 use Rattle.lanes.proofs.ColumnLaws.{column_end}
 use Rattle.additions.proofs.addition_column.Goals as goal
 

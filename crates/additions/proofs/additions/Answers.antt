@@ -3,7 +3,7 @@ use native.Mathlib.Omega.{arith}
 use borrow.Author.Rules.{rules}
 use mathlib.Core.Path.{◌≡◌, ap, ◌∙◌}
 use mathlib.Core.Bool.{true}
-use Prim.Native.Nat.{◌*◌, ◌<◌, ◌-◌}
+use Prim.Native.Nat.{◌*◌, ◌<◌}
 use lib.ListN.{length, get_or}
 use Rattle.ternary.specs.TruthTable.{signal_kinds}
 use Rattle.net.specs.Limits.{most_key_nodes}
