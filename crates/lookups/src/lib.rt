@@ -4,7 +4,6 @@
 mod look_ups;
 
 pub use look_ups::LookUps;
-
 use net::Net;
 
 // What the two passes give by look-ups from a stable start: both last vectors and both step counts.

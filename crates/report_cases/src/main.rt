@@ -184,5 +184,10 @@ fn main(rt: HostRuntime) {
     let mut buffer: [u8; Input::MOST_BYTES] = files::buffer(0);
     let n = read_input(&rt, &mut buffer);
     let cases = &buffer[..n];
-    run_cases(&rt, cases, b'N', |at, from| print_answer(&rt, cases, at, data_of(cases, from)));
+    run_cases(
+        &rt,
+        cases,
+        b'N',
+        |at, from| print_answer(&rt, cases, at, data_of(cases, from)),
+    );
 }

@@ -20,8 +20,7 @@ taken c =
 pub loop-i-init : goal.loop-i-init
 loop-i-init c =
     let gives = c.into_iter-i-iterator.ensures.into_iter_gives in
-    let source = c.enumerate-i-items.ensures.source in
-    (
+    let source = c.enumerate-i-items.ensures.source in (
       search rules,
       search rules,
       rw (gives, source) c.chunks.ensures.size,
@@ -43,14 +42,13 @@ loop-i-preserved c =
     let w = 2 * c.args.look_ups.now.count in
     let i = c.in-Some.i in
     let n = c.in-Some.ensures.steps in
-    let v = c.loop-i.invariant in
-    (
+    let v = c.loop-i.invariant in (
       search rules,
       search rules,
       n.0.0 ∙ v.2,
       v.3,
       rw (n.2, ← n.1, one_more i w, one_more i answer_width)
-      (step (rw (← n.1) at v.4) (taken (goal.at.loop-i-preserved c).In-Some) v.3 _ _ _ c.job-answer.ensures c.write_answer.ensures),
+          (step (rw (← n.1) at v.4) (taken (goal.at.loop-i-preserved c).In-Some) v.3 _ _ _ c.job-answer.ensures c.write_answer.ensures),
     )
 
 pub returns : goal.returns
