@@ -14,7 +14,7 @@ fn brought(cases: &[u8], brings: u8, at: usize, from: usize) -> usize
 }
 
 // Calls `answer` for each case in turn, with its place and with that of the case of kind `brings` that stood last, itself included; 0 before there is one. A
-// note is printed as it stands, which ends the line of the case before it.
+// note is printed as it stands, which ends the line of the case before it. No iterator: where a case ends, the case says.
 pub fn run_cases<F: Fn(usize, usize)>(rt: &HostRuntime, cases: &[u8], brings: u8, answer: F)
     requires { (at from : ℕ) → at < length cases.now → F.pre answer at from }
     ensures { All (λ x. F.post answer x.0 x.1 tt) (turns cases.now brings) }

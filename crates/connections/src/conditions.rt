@@ -67,6 +67,7 @@ pub(crate) fn usable_lanes(on: &mut [u8; Net::EDGE_LANES], wiring: &Wiring, kind
     ensures { on.new ≡ usable_lanes wiring.now.net.now kind }
 {
     let count = wiring.net.edge_count as usize;
+    // By number: an edge's row has it too, and of `enumerate` over a part each fact would go through the part.
     for i in 0..count {
         let edge = wiring.net.edges[i];
         let y = lane_values::chosen(edge.end2, edge.end1, wiring.storage[edge.end1 as usize]);

@@ -35,7 +35,7 @@ fn over_signals(graph: &Graph, y: u8) -> bool
     Net::MOST_SIGNALS < signal_count(graph, y)
 }
 
-// The lowest vertex of a component with too many signals.
+// The lowest vertex of a component with too many signals. No `find`: `over_signals` asks that no vertex before is over.
 fn signal_place(graph: &Graph) -> Option<u16>
     ensures { result ≡ found_of (signal_place graph.now.net) }
 {

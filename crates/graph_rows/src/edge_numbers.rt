@@ -1,8 +1,7 @@
 // Edges as numbers: one number for all edges that join the same two vertices and have the same symbol and form. To count such edges is to compare numbers, and
 // the compiler compares several at a time.
 
-ghost use Rattle.std.specs.Prelude.{◌≡◌, ◌≤◌, ◌<◌, eqb};
-ghost use Rattle.ternary.specs.Bits.{digit};
+ghost use Rattle.std.specs.Prelude.{◌≡◌, ◌≤◌, ◌<◌};
 ghost use Rattle.net.specs.Limits.{most_vertices, most_edges};
 ghost use Rattle.net.specs.Symbols.{symbol_bound};
 ghost use Rattle.sheet.specs.Checked.{Checked};
@@ -43,6 +42,7 @@ pub(crate) fn edge_numbers(net: Net) -> [u32; Net::MOST_EDGES]
 {
     let mut numbers = [0u32; Net::MOST_EDGES];
     let count = net.edge_count as usize;
+    // By places, of two tables.
     for j in 0..count {
         numbers[j] = edge_number(net.edges[j]);
     }

@@ -13,8 +13,8 @@ pub use graph::Graph;
 use ternary::Signal;
 pub use vertex_tables::by_vertex;
 
-// A vertex by its numbers on the sheet. label: an input vertex's symbol. Role, and an edge's form and symbol, stay numbers: any record may be handed in, and one
-// that holds another number is answered 41 (`record::is_record`).
+// A vertex by its numbers on the sheet. label: an input vertex's symbol. Role, and an edge's form and symbol, stay numbers: any record may be handed in, and
+// one that holds another number is answered 41 (`record::is_record`).
 #[derive(Clone, Copy, PartialEq, Eq, Default)]
 pub struct Vertex {
     pub role: u8,

@@ -5,6 +5,7 @@ use net::Net;
 use sheet::{Answer, Sheet};
 
 // What a call wrote: so many bytes; so many, and nothing is to follow; or none because the buffer is shorter than the call asks for.
+// Three cases, so no Option.
 #[derive(Clone, Copy)]
 pub enum Written {
     Short,
@@ -12,7 +13,7 @@ pub enum Written {
     Last(u32),
 }
 
-// What a sheet is judged to be: the reader's answer or the verdict, and h.
+// What a sheet is judged to be: the reader's answer or the verdict, and h, which is printed under a number too.
 #[derive(Clone, Copy)]
 pub struct Judged {
     pub answer: Answer,

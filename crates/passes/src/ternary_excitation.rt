@@ -31,7 +31,7 @@ fn add_row<'a, 'b>(
     ensures { sums.new ≡ table most_key_nodes (λ k. at sums.old k + cell most_key_nodes additions.now row k) }
 {
     let from = row * Net::MOST_KEY_NODES;
-    // By places: what a `zip` of `iter_mut` wrote, no fact tells after the loop.
+    // By places: what a `zip` of `iter_mut` wrote, no fact tells after the loop, and `enumerate` would index the other table all the same.
     for k in 0..Net::MOST_KEY_NODES {
         sums[k] += additions[from + k];
     }

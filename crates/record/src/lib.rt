@@ -10,6 +10,7 @@ ghost use Rattle.sheet.specs.Fitting.{vertex_fits, edge_fits};
 
 use net::{Edge, Net, Vertex};
 
+// Of vertices and of edges there are two tests each, down to `edges_fit`, of two definitions: one for both would be no shorter.
 fn is_no_vertex(x: Vertex) -> bool
     ensures { result ≡ is_no_vertex x }
 {

@@ -35,7 +35,7 @@ fn write_vector<'a, 'b>(out: &'a mut [u8], number: u8, vector: &'b [u8])
     ensures { out.new ≡ spec.vector_text (length out.old) number vector.now }
 {
     let h = out.len();
-    // By places: what a `zip` of `iter_mut` wrote, no fact tells after the loop.
+    // By places: what a `zip` of `iter_mut` wrote, no fact tells after the loop, and `enumerate` would index the other table all the same.
     for i in 0..h {
         out[i] = shown(number, vector[i]);
     }

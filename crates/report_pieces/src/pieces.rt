@@ -34,7 +34,7 @@ pub(crate) fn read_lines(first: u32, lines: &[u8]) -> &[u8]
     &lines[..end]
 }
 
-// Zeros for the jobs of a piece, of which a call lends as many as its jobs need.
+// Zeros for the jobs of a piece, of which a call lends as many as its jobs need. Not `files::buffer`: the library for C stands on this crate and opens no file.
 fn zeros<const N: usize>() -> [u8; N]
     ensures { result ≡ replicate N 0 }
 {

@@ -1,4 +1,5 @@
-//! What the program writes and what it does next. The program itself reads, hands over and writes; whatever is decided on the way is decided here.
+//! What programs write of a text that a call makes, and what `settle` does next. The programs themselves read and hand over; whatever is decided on the way is
+//! decided here.
 //! What each function gives stands in the crate `output`.
 #![tactic(auto)]
 

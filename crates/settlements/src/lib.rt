@@ -1,7 +1,7 @@
 //! What settling and a batch answer and write: definitions and laws. The code is in the crates `writing`, `job_tests`, `batch_jobs` and `settling`.
 #![tactic(auto)]
 
-// What settling returns: a number with its place, and the step counts of both passes (0 under a number).
+// What settling returns: a number with its place, and the step counts of both passes (0 under a number), side by side as document 01 has them.
 #[derive(Clone, Copy)]
 pub struct Settling {
     pub number: u8,

@@ -159,7 +159,7 @@ pub enum Entry {
     Edge(Edge),
 }
 
-// What reading a sheet gives: under a number the record is empty.
+// What reading a sheet gives: under a number the record is empty, and there all the same (document 01).
 #[derive(Clone, Copy)]
 pub struct Reading {
     pub answer: Answer,

@@ -4,7 +4,7 @@
 
 use sheet::Answer;
 
-// The number of key nodes of a record, 0 under a number.
+// The number of key nodes of a record, 0 under a number: both, as document 01 has them.
 #[derive(Clone, Copy)]
 pub struct KeyNodes {
     pub answer: Answer,

@@ -52,6 +52,7 @@ fn combine(
     requires { length excitations.old ≡ suc most_vertices * assignments }
     ensures { excitations.new ≡ table (suc most_vertices * assignments) (λ i. excitation_of (eqb (get_or n0.now i 0) 1) (eqb (get_or c0.now i 0) 1) (eqb (get_or p1.now i 0) 1) (eqb (get_or c1.now i 0) 1)) }
 {
+    // By places, of five tables.
     for i in 0..Net::VERTEX_LANES {
         excitations[i] = excited(n0[i], c0[i], p1[i], c1[i]);
     }

@@ -4,7 +4,7 @@
 
 use sheet::Answer;
 
-// What writing a sheet answers: under a number the length is 0.
+// What writing a sheet answers: under a number the length is 0, beside it as counts are in document 01.
 #[derive(Clone, Copy)]
 pub struct Written {
     pub answer: Answer,

@@ -10,6 +10,7 @@ ghost use Rattle.writer.specs.Fronts.{Sized, body_line};
 use net::{Net, Vertex};
 use sheet::{Line, Sheet};
 
+// No `From`, since it is the line of a whole record.
 fn header_line(net: Net) -> Line
     ensures { result ≡ header_line net }
 {
@@ -36,7 +37,8 @@ fn vertex_line(x: Vertex, j: usize) -> Line
     }
 }
 
-// Line j below the header, counted from 0: vertices come before edges, which stand in the record's order.
+// Line j below the header, counted from 0: vertices come before edges, which stand in the record's order. No `From`: it takes the
+// record and a place.
 fn body_line(net: Net, j: usize) -> Line
     requires { Sized net × (j < net.vertex_count + net.edge_count) }
     ensures { result ≡ body_line net j }
