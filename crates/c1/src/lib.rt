@@ -43,7 +43,8 @@ fn lowest_in_rows<'a>(
     (0..end).find(|y| breaks(keys[*y as usize], excitations, *y as usize))
 }
 
-// The lowest vertex that breaks C1. The table of excitations, which tells it, is left to the caller.
+// The lowest vertex that breaks C1. The table of excitations, which tells it, is left to the caller. Of any fit net: the value for a sound one is made by what
+// this answers.
 pub fn lowest_break<'a>(net: Net, excitations: &'a mut [u8; Net::VERTEX_LANES]) -> Option<u16>
     requires { Fit net × (length excitations.old ≡ suc most_vertices * assignments) }
     ensures { (result ≡ found_of (place_c1 net)) × (excitations.new ≡ excitation_lanes net) }

@@ -42,7 +42,7 @@ fn usable_at(kind: Kind, form: u8, symbol: u16, bit: u8) -> u8
     )
 }
 
-// Row v, which is an edge's and no vertex's, takes one of two values, by column p.
+// Row v, which is an edge's and no vertex's, takes one of two values, by column p: two tables with a row of each, of one call.
 fn choose_row(
     rows: &mut [u8],
     v: usize,

@@ -15,7 +15,7 @@ fn raised(on: u8, from: u8, mark: u8) -> u8
     if on == 1 && from == 1 { 1 } else { mark }
 }
 
-// Row v of the marks is set where edge i is on and column p chooses 1.
+// Row v of the marks is set where edge i is on and column p chooses 1: three tables with a row of each, of one call.
 pub(crate) fn mark_row(
     marks: &mut [u8],
     v: u8,

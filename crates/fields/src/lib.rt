@@ -102,7 +102,7 @@ pub fn write_field(out: &mut [u8], n: u64)
     }
 }
 
-// Four numbers, a field of so many columns each.
+// Four numbers, a field of so many columns each. They are a line's or a job's or a verdict's, so no struct has them.
 pub fn write_four(out: &mut [u8], columns: usize, first: u64, second: u64, third: u64, fourth: u64)
     requires { (columns ≤ most_columns) × (length out.old ≡ columns * 4) }
     ensures { out.new ≡ write_field columns first ++ write_field columns second ++ write_field columns third ++ write_field columns fourth }

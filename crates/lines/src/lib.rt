@@ -39,7 +39,7 @@ pub fn line(sheet: &[u8], n: usize) -> &[u8]
     line_in(sheet, Sheet::FIELD_WIDTH, n)
 }
 
-// The number of that call's answer: 0, or 47 where there is no such line.
+// The number of that call's answer, as document 01 has it: 0, or 47 where there is no such line.
 pub fn line_answer(sheet: &[u8], n: usize) -> u8
     ensures { result ≡ line_number sheet.now n }
 {

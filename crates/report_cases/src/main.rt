@@ -95,7 +95,7 @@ fn print_piece<'a, F: Fn(&[u8])>(
     report_turns::after_piece(first, lines.len(), true)
 }
 
-// The lines of the jobs, piece by piece, each printed by `print`.
+// The lines of the jobs, piece by piece, each printed by `print`: what comes next is known after each.
 fn print_pieces<'a, F: Fn(&[u8])>(print: F, sheet: &'a [u8], jobs: &'a [u8])
     requires { F.IsAlwaysCallable print }
 {

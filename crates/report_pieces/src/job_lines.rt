@@ -39,7 +39,7 @@ fn write_job<'a, 'b>(out: &'a mut [u8], h: usize, n: usize, three: &'b [u8], own
     crate::line_vectors::write_both(&mut out[end..], h, number, own);
 }
 
-// The lines of so many jobs, the first of them numbered `first`, to the front of a buffer.
+// The lines of so many jobs, the first of them numbered `first`, to the front of a buffer: the buffers of one call, and what is in them.
 pub(crate) fn write_jobs<'a, 'b>(
     out: &'a mut [u8],
     h: usize,

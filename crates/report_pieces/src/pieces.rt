@@ -41,7 +41,8 @@ fn zeros<const N: usize>() -> [u8; N]
     [0; N]
 }
 
-// Runs the jobs, and writes their lines unless the batch is refused. Answers how many bytes it wrote.
+// Runs the jobs, and writes their lines unless the batch is refused. Answers how many bytes it wrote. The buffers are those
+// that `write` lends, and go no further.
 fn run<'a, 'b>(
     net: Net,
     h: usize,

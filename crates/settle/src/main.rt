@@ -51,7 +51,7 @@ fn write_piece(rt: &HostRuntime, sheet: &[u8], jobs: &mut Option<File>, first: u
     report_turns::after_piece(first, size, is_written)
 }
 
-// Writes the text of the jobs, piece by piece.
+// Writes the text of the jobs, piece by piece: what comes next is known after each.
 fn write_jobs(rt: &HostRuntime, sheet: &[u8], jobs: &mut Option<File>, start: Option<u32>) {
     let mut next = start;
     while let Some(first) = next {

@@ -52,7 +52,7 @@ fn print_numbers(rt: &HostRuntime, buffer: &[u8]) {
     }
 }
 
-// Settling: number, place, step counts, and both buffers whole.
+// Settling: number, place, step counts, and both buffers whole. It takes what `settling::settle` takes.
 fn print_settling(
     rt: &HostRuntime,
     net: Net,

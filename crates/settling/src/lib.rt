@@ -32,7 +32,8 @@ fn refusal(net: Net, excitations: &mut [u8; Net::VERTEX_LANES]) -> Option<Answer
     None
 }
 
-// Settling from an old to a new input state and a start: any record, any numbers, any two buffers.
+// Settling from an old to a new input state and a start: any record, any numbers, any two buffers. A call for anyone: the numbers are
+// those of document 01, and no value of this repository has to be made first.
 pub fn settle<'a>(
     net: Net,
     old: u32,

@@ -21,7 +21,7 @@ fn columns() -> [u8; Net::COLUMN_LANES]
     array::from_fn(|i| (((i % Net::ASSIGNMENTS) >> (i / Net::ASSIGNMENTS)) % 2) as u8)
 }
 
-// n0, c0: an n-connection, a connection to 0. p1, c1: a p-connection, a connection to 1.
+// n0, c0: an n-connection, a connection to 0. p1, c1: a p-connection, a connection to 1. The values are the papers' numbers, a byte a lane.
 #[tactic(auto, unfolding(net::specs::Excitation::excitation_of))]
 fn excited(n0: u8, c0: u8, p1: u8, c1: u8) -> u8
     ensures { result ≡ excitation_of (eqb n0 1) (eqb c0 1) (eqb p1 1) (eqb c1 1) }
@@ -74,7 +74,7 @@ fn fill_from(wiring: &Wiring, excitations: &mut [u8; Net::VERTEX_LANES])
     combine(excitations, &n0, &c0, &p1, &c1);
 }
 
-// The excitations of every storage vertex, at every assignment of its component's signals.
+// The excitations of every storage vertex, at every assignment of its component's signals. It promises them for any fit net, whoever has made no tables yet.
 pub fn fill(net: Net, excitations: &mut [u8; Net::VERTEX_LANES])
     requires { Fit net × (length excitations.old ≡ suc most_vertices * assignments) }
     ensures { excitations.new ≡ excitation_lanes net }
