@@ -14,11 +14,15 @@ ghost use Rattle.sheet.specs.Search.{found_of};
 
 use net::Net;
 
-// Is some entry of a row 2, 3 or 5?
+// Is some entry of a row 2, 3 or 5? Every entry is looked at: the loop has no branch.
 fn row_breaks(row: &[u8]) -> bool
     ensures { result ≡ list_any (leb 2) row.now }
 {
-    row.iter().any(|excitation| *excitation >= 2)
+    let mut found = false;
+    for excitation in row {
+        found |= *excitation >= 2;
+    }
+    found
 }
 
 // Is y, with the flag of a key node, ever excited to 2, 3 or 5?
@@ -39,8 +43,10 @@ fn lowest_in_rows<'a>(
     requires { Fit net × (keys.now ≡ key_flags net) × (excitations.now ≡ excitation_lanes net) }
     ensures { result ≡ found_of (place_c1 net) }
 {
-    let end = net.vertex_count as u16 + 1;
-    (0..end).find(|y| breaks(keys[*y as usize], excitations, *y as usize))
+    let end = net.vertex_count + 1;
+    (0..end)
+        .find(|y| breaks(keys[*y as usize], excitations, *y as usize))
+        .map(|y| y as u16)
 }
 
 // The lowest vertex that breaks C1. The table of excitations, which tells it, is left to the caller. Of any fit net: the value for a sound one is made by what

@@ -1,1 +1,1 @@
-mod StreamLaws
+pub mod StreamLaws

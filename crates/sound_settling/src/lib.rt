@@ -40,7 +40,9 @@ pub fn settle<'a, 'b>(
         additions: &additions,
         count: h,
     };
-    batch_jobs::settle(&look_ups, job, r, t)
+    // What it answers has a name, since edits that must fail change it.
+    let answer = batch_jobs::settle(&look_ups, job, r, t);
+    answer
 }
 
 // A batch: room for all jobs, then the jobs.

@@ -9,7 +9,7 @@ use mathlib.Core.Bool.{Bool, true, false, cond}
 use mathlib.Core.Option.{Option, none, some}
 use mathlib.Core.List.{List, [], ◌∷◌, ◌++◌, map-id}
 use Rattle.std.specs.Prelude.{Option as Answered, Some, None}
-use Rattle.std.specs.Option.{option_or, option_map}
+use Rattle.std.specs.Option.{MatchOption, IsSomeAnd, option_or, option_map}
 use Rattle.std.specs.List.{find, range_with_len}
 use Rattle.std.proofs.lemmas.Iterator.{YieldsList-from_range}
 use Rattle.std.proofs.lemmas.Iterator.Search.{find_from_yields_List}
@@ -40,15 +40,17 @@ find_least p (suc n) =
     go none false = refl
     go (some k) b = refl
 
-same_option : (o : Answered ℕ) → option_map (λ (x : ℕ). x) o ≡ o
-same_option None = refl
-same_option (Some x) = refl
+-- a vertex's number as a place is the same number
+as_place : (Q : ℕ → ℕ → Type 0) → ((x y : ℕ) → Q x y → y ≡ x) → (o r : Answered ℕ) → MatchOption o (r ≡ None) (λ x. IsSomeAnd r (Q x)) → r ≡ option_map (λ (x : ℕ). x) o
+as_place Q q None r h = h
+as_place Q q (Some x) (Some y) h = ap Some (q x y h)
+as_place Q q (Some x) None h = elim h [ ]
 
 pub returns : goal.returns
 returns c =
     let p : ℕ → Bool = breaking c.args.keys.now c.args.excitations.now in
     let end : ℕ = c.args.net.vertex_count + 1 in
-    sym (same_option c.find.result)
+    as_place _ (λ x y h. search rules) _ _ c.map.ensures.cases
     ∙ find_from_yields_List p _ _ c.find.result c.find.ensures.ran (YieldsList-from_range 0 end end refl (omega arith)) (λ x b q k. search (rules, tests))
     ∙ find_least p end
     ∙ ap (λ (n : ℕ). found_of (least_below n p)) (add-one c.args.net.vertex_count)

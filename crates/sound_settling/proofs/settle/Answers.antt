@@ -76,7 +76,7 @@ returns c =
     let s = states (goal.at.returns c).In_default in
     let v = room-r (goal.at.returns c).Else-r-h in
     let w = room-t (goal.at.returns c).Else-t-h in
-    c.settle.ensures
+    c.settle-answer.ensures
     ∙ passed (ready (goal.at.returns c).After-additions-additions) _ _ _ s _ _
     (at_rest _ _ _ _ _ _ c.args.sound.now.accepted c.args.sound.now.sound s v w)
     (not_stable _ _ _ _ _ _ c.args.sound.now.accepted c.args.sound.now.sound s v w)
