@@ -11,12 +11,12 @@ columns-cons : (n : ℕ) (rest : List ℕ) → columns (n ∷ rest) ≡ write_nu
 unfolding columns
 columns-cons n rest = refl
 
-columns_end : (numbers : List ℕ) → numbers ≡ [] → columns numbers ≡ []
+pub columns_end : (numbers : List ℕ) → numbers ≡ [] → columns numbers ≡ []
 unfolding columns
 columns_end numbers e = rw e
 
 -- the number at a place, and then those behind it
-column_more : (a b c : Option (List ℕ)) (numbers text : List ℕ) (i d : ℕ) → i < length numbers → text ≡ write_number (get_or numbers i d)
+pub column_more : (a b c : Option (List ℕ)) (numbers text : List ℕ) (i d : ℕ) → i < length numbers → text ≡ write_number (get_or numbers i d)
     → Appends a b text → Appends b c (columns (drop (i + 1) numbers)) → Appends a c (columns (drop i numbers))
 column_more a b c numbers text i d h e p q =
     let same : columns (drop i numbers) ≡ write_number (get_or numbers i d) ++ columns (drop (i + 1) numbers) =
