@@ -40,9 +40,24 @@ pub fn settle<'a, 'b>(
         additions: &additions,
         count: h,
     };
-    // What it answers has a name, since edits that must fail change it.
-    let answer = batch_jobs::settle(&look_ups, job, r, t);
-    answer
+    // As `batch_jobs::settle` has them: written out here, so that r taken for t is one wrong operand, which an edit that must fail plants.
+    let passed = passes::passes(
+        &look_ups,
+        job.old as usize,
+        job.new as usize,
+        job.start as usize,
+    );
+    let Some(passed) = passed else {
+        return job_tests::refused(Answer::UNSTABLE_START, 0);
+    };
+    writing::write(r, &passed.first, h);
+    writing::write(t, &passed.second, h);
+    Settling {
+        number: 0,
+        place: 0,
+        first_steps: passed.first_steps,
+        second_steps: passed.second_steps,
+    }
 }
 
 // A batch: room for all jobs, then the jobs.

@@ -1,5 +1,5 @@
 -- `c1::row_breaks` meets its contract: all entries are looked at in the end. Assumes nothing.
-use Rattle.std.proofs.Common.{◌≡◌, sym, ap, ◌∙◌, leb, refl, take_all}
+use Rattle.std.proofs.Common.{sym, ap, ◌∙◌, leb, refl, take_all}
 use Rattle.std.specs.List.{list_any}
 use Rattle.std.proofs.lemmas.List.Folds.{list_any_more}
 use Rattle.c1.proofs.row_breaks.Goals as goal

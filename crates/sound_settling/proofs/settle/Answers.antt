@@ -8,12 +8,14 @@ use Rattle.net.specs.Graph.{key_count}
 use Rattle.net.proofs.WellFormed.{place_c1_none}
 use Rattle.excitations.specs.Fit.{Fit}
 use Rattle.troubles.proofs.FitLaws.{valid_fit}
+use Rattle.settlements.specs.Passed.{settled_by}
 use Rattle.settlements.specs.Ready.{Ready}
+use Rattle.settlements.specs.Settle.{settle_of}
 use Rattle.settlements.proofs.NumberLaws.{number_of}
 use Rattle.settlements.proofs.PassedLaws.{few_keys, indexed, passed}
 use Rattle.settlements.proofs.SettleSteps.{bad_state, short_r, short_t, not_stable, at_rest}
 use Rattle.sound_settling.proofs.settle.Goals as goal
-use Rattle.sound_settling.proofs.settle.Goals.{After-additions-additions, In_default, Else-r-h, Else-t-h, Start}
+use Rattle.sound_settling.proofs.settle.Goals.{After-additions-additions, After-passes-passed, In_default, Else-r-h, Else-t-h, Start}
 
 fit : (c : Start) → Fit c.args.sound.now.net.now
 fit c = valid_fit _ c.args.sound.now.accepted
@@ -71,12 +73,27 @@ additions-additions-requires c = fit (goal.at.additions-additions-requires c).St
 pub invariant_of-look_ups : goal.invariant_of-look_ups
 invariant_of-look_ups c = let p = ready (goal.at.invariant_of-look_ups c).After-additions-additions in record { few = few_keys p; indexed = indexed p }
 
-pub returns : goal.returns
-returns c =
-    let s = states (goal.at.returns c).In_default in
-    let v = room-r (goal.at.returns c).Else-r-h in
-    let w = room-t (goal.at.returns c).Else-t-h in
-    c.settle-answer.ensures
-    ∙ passed (ready (goal.at.returns c).After-additions-additions) _ _ _ s _ _
+-- what the passes answer is what settling answers
+by_passes : (c : After-passes-passed) →
+    settled_by c.key_count-h.result c.passes-passed.result c.args.r.now c.args.t.now
+    ≡ settle_of c.args.sound.now.net.now c.args.job.old c.args.job.new c.args.job.start c.args.r.now c.args.t.now
+by_passes c =
+    let s = states (goal.at.After-passes-passed c).In_default in
+    let v = room-r (goal.at.After-passes-passed c).Else-r-h in
+    let w = room-t (goal.at.After-passes-passed c).Else-t-h in
+    rw c.passes-passed.ensures
+    (passed (ready (goal.at.After-passes-passed c).After-additions-additions) _ _ _ s _ _
     (at_rest _ _ _ _ _ _ c.args.sound.now.accepted c.args.sound.now.sound s v w)
-    (not_stable _ _ _ _ _ _ c.args.sound.now.accepted c.args.sound.now.sound s v w)
+    (not_stable _ _ _ _ _ _ c.args.sound.now.accepted c.args.sound.now.sound s v w))
+
+pub returns-in_default-passed : goal.returns-in_default-passed
+unfolding settled_by
+returns-in_default-passed c =
+    rw c.refused-in_default-passed.ensures
+    (rw c.in_default-passed.is at (by_passes (goal.at.returns-in_default-passed c).After-passes-passed))
+
+pub returns : goal.returns
+unfolding settled_by
+returns c =
+    rw (c.write.ensures, c.write-2.ensures)
+    (rw c.in-Some-passed.is at (by_passes (goal.at.returns c).After-passes-passed))
